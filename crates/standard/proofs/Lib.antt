@@ -1,0 +1,2 @@
+-- Laws about the definitions in specs/, by subject.
+pub mod Examples
