@@ -1,0 +1,4 @@
+// SHA-256 in Rattle (FIPS 180-4 §6.2), proved equal to the definitions of the crate `standard`.
+pub mod rounds;
+pub mod schedule;
+pub mod words;
