@@ -161,10 +161,11 @@ def value_text(holds, value):
 
 def explained(output):
     """The lines of a run's output in words, one by one."""
+    lines = output.split("\n")
+    if lines[-1] == "":
+        lines.pop()
     ended = False
-    for count, line in enumerate(output.removesuffix("\n").split("\n"), start=1):
-        if output == "":
-            return
+    for count, line in enumerate(lines, start=1):
         if ended:
             raise Unreadable(f"line {count}: nothing follows a 'book' line")
         try:

@@ -4,7 +4,7 @@ use crate::words;
 ghost use mathlib.Core.Path.{_≡_};
 ghost use lib.ListN.{length};
 ghost use Rattle.standard.specs.Hash.{turn, turns, added, compressed, T₁, T₂};
-ghost use Rattle.standard.specs.Sha256.{sha256};
+ghost use Rattle.standard.specs.Sha256.{sha256, initial256};
 ghost use Rattle.sha256.specs.Values.{eightOf};
 
 // The eight words of a hash value, or the eight working variables.
@@ -86,6 +86,22 @@ const K: [u32; 64] = [
     0xbef9a3f7,
     0xc67178f2,
 ];
+
+// §5.3.3
+pub fn initial() -> Eight
+    ensures { λ r. ⌜ eightOf r ≡ initial256 ⌝ }
+{
+    Eight {
+        a: 0x6a09e667,
+        b: 0xbb67ae85,
+        c: 0x3c6ef372,
+        d: 0xa54ff53a,
+        e: 0x510e527f,
+        f: 0x9b05688c,
+        g: 0x1f83d9ab,
+        h: 0x5be0cd19,
+    }
+}
 
 // Step 3, T₁ and T₂.
 fn t1(s: Eight, k: u32, w: u32) -> u32

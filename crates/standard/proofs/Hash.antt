@@ -5,8 +5,9 @@ use Prim.Native.Nat.{ℕ, zero, suc, _+_, _-_, _*_, _/_, _^_, _≤_, _<_}
 use native.Mathlib.Numerals.{add-one}
 use native.Mathlib.Omega.{arith}
 use borrow.Author.Tests.{lt-ltb, le-ltb}
-use lib.ListN.{length, getD, take, drop, set, length-append}
-use lib.Seq.{take-suc-set, getD-take}
+use lib.ListN.{length, getD, take, drop, set, length-append, length-drop}
+use native.Mathlib.Nat.{mul-suc, mul-le-mul-left, le-trans}
+use lib.Seq.{take-suc-set, getD-take, drop-append-le, take-append-le}
 use Rattle.standard.specs.Metered.{Metered}
 use Rattle.standard.specs.Words.{σ}
 use Rattle.standard.specs.Hash.{Hash, Eight, wordBits, blockBytes, plus, wordAt, blockAt, schedule, scheduleWord, turn, turns, compressed, absorbed}
@@ -23,17 +24,6 @@ module _ (H : Hash) where
   pub absorbed-more : (m : List ℕ) (i : ℕ) (s : Eight) → absorbed H m (i + 1) s .value ≡ compressed H (absorbed H m i s .value) (blockAt H m i)
   unfolding absorbed
   absorbed-more m i s = rw add-one
-
-  pub length-schedule : (block : List ℕ) (n : ℕ) → length (schedule H block n) ≡ n
-  unfolding schedule
-  length-schedule block zero = refl
-  length-schedule block (suc t) =
-      length-append (schedule H block t) _ ∙ ap (λ (n : ℕ). n + 1) (length-schedule block t) ∙ add-one t
-
-  pub absorbed-blocks : (m : List ℕ) (n : ℕ) (s : Eight) → absorbed H m n s .blocks ≡ n
-  unfolding absorbed
-  absorbed-blocks m zero s = refl
-  absorbed-blocks m (suc i) s = ap (λ (n : ℕ). n + 1) (absorbed-blocks m i s) ∙ add-one i
 
   -- an array whose first t words are the schedule's, and the next word stored
   module _ (block w : List ℕ) (t v : ℕ) (room : t < length w) (so-far : take t w ≡ schedule H block t) where
@@ -58,8 +48,34 @@ module _ (H : Hash) where
         stored
         (e ∙
         sym
-        (rw (le-ltb t 16 many,
-        earlier 2 (omega arith) (omega arith),
-        earlier 7 (omega arith) (omega arith),
-        earlier 15 (omega arith) (omega arith),
-        earlier 16 (omega arith) (omega arith))))
+        (rw (
+          le-ltb t 16 many,
+          earlier 2 (omega arith) (omega arith),
+          earlier 7 (omega arith) (omega arith),
+          earlier 15 (omega arith) (omega arith),
+          earlier 16 (omega arith) (omega arith),
+        )))
+
+  -- the first blocks of a string do not see what follows it
+  pub blockAt-append : (m x : List ℕ) (i : ℕ) → blockBytes H * (i + 1) ≤ length m → blockAt H (m ++ x) i ≡ blockAt H m i
+  unfolding blockAt
+  blockAt-append m x i h =
+      let parts : blockBytes H * (i + 1) ≡ blockBytes H * i + blockBytes H = rw (add-one, mul-suc) in
+      let start : blockBytes H * i ≤ length m = omega arith in
+      let rest : blockBytes H ≤ length (drop (blockBytes H * i) m) = simp length-drop (omega arith) in
+      rw (drop-append-le _ m x start, take-append-le _ (drop (blockBytes H * i) m) x rest)
+
+  pub absorbed-append : (m x : List ℕ) (n : ℕ) (s : Eight) → blockBytes H * n ≤ length m → absorbed H (m ++ x) n s ≡ absorbed H m n s
+  unfolding absorbed
+  absorbed-append m x zero s h = refl
+  absorbed-append m x (suc i) s h =
+      ap₂ (λ t b. record { value = compressed H (t .value) b; blocks = t .blocks + 1 }) (absorbed-append m x i s (before i h))
+      (blockAt-append m x i (one-more i h))
+    where
+      before : (i : ℕ) → blockBytes H * suc i ≤ length m → blockBytes H * i ≤ length m
+      before i h =
+          let up : i ≤ suc i = omega arith in
+          le-trans (mul-le-mul-left (blockBytes H) up) h
+
+      one-more : (i : ℕ) → blockBytes H * suc i ≤ length m → blockBytes H * (i + 1) ≤ length m
+      one-more i h = rw add-one h

@@ -23,13 +23,14 @@ loop-holds c = search needs
 
 loop-again : tie.Need-loop-again Inv-loop μ-loop
 loop-again c =
-    let l = c .before .before .loop in
-    (search needs,
-    c .turned .ensures ∙
-    ap₂ (λ k s. turn sha256 s (getD k (l .t) 0) (getD (c .before .before .before .args .t2) (l .t) 0)) (l .inv .3) (l .inv .1) ∙
-    sym (turns-more sha256 _ (l .t) _),
-    search needs,
-    search needs)
+    let l = c .before .before .loop in (
+      search needs,
+      c .turned .ensures ∙
+          ap₂ (λ k s. turn sha256 s (getD k (l .t) 0) (getD (c .before .before .before .args .t2) (l .t) 0)) (l .inv .3) (l .inv .1) ∙
+          sym (turns-more sha256 _ (l .t) _),
+      search needs,
+      search needs,
+    )
 
 returns : tie.Need-returns Inv-loop μ-loop
 returns c =

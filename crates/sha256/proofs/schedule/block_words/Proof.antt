@@ -22,10 +22,11 @@ loop-holds c = search needs
 
 loop-again : tie.Need-loop-again Inv-loop μ-loop
 loop-again c =
-    let l = c .before .before .loop in
-    (search needs,
-    search needs,
-    block-word-stored sha256 _ (l .w) (l .t) (c .word-at .result) (omega arith) (l .inv .2) (c .before .loop-test .taken) (c .word-at .ensures))
+    let l = c .before .before .loop in (
+      search needs,
+      search needs,
+      block-word-stored sha256 _ (l .w) (l .t) (c .word-at .result) (omega arith) (l .inv .2) (c .before .loop-test .taken) (c .word-at .ensures),
+    )
 
 returns : tie.Need-returns Inv-loop μ-loop
 returns c =

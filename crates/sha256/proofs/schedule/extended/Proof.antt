@@ -116,12 +116,13 @@ loop-less c = search needs
 -- src/schedule.rt:45:5
 loop-again : tie.Need-loop-again Inv-loop μ-loop
 loop-again c =
-    let l = c .before .before .before .before .before .before .loop in
-    (search needs,
-    search needs,
-    search needs,
-    λ block sixteen.
-      later-word-stored sha256 block (l .w) (l .t) (c .sum3 .result) (omega arith) (l .inv .3 block sixteen) (l .inv .1) (cc))
+    let l = c .before .before .before .before .before .before .loop in (
+      search needs,
+      search needs,
+      search needs,
+      λ block sixteen.
+          later-word-stored sha256 block (l .w) (l .t) (c .sum3 .result) (omega arith) (l .inv .3 block sixteen) (l .inv .1) (cc),
+    )
 
 -- src/schedule.rt:41:1
 returns : tie.Need-returns Inv-loop μ-loop
