@@ -1,0 +1,1 @@
+// SP 800-90A §10.1.2: HMAC_DRBG over SHA-256.

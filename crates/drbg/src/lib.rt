@@ -1,0 +1,4 @@
+// HMAC_DRBG and Hash_DRBG over SHA-256 (SP 800-90A §10.1), proved equal to the definitions of the crate `standard`.
+pub mod hmac;
+pub mod hmac_drbg;
+pub mod joined;
