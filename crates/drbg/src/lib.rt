@@ -2,3 +2,4 @@
 pub mod hmac;
 pub mod hmac_drbg;
 pub mod joined;
+pub mod output;

@@ -25,7 +25,7 @@ returns c =
     let pad = c .before .before .before .before .before .before .before .before .pad-block in
     let a = c .before .before .before .before .before .before .before .before .before .before .before .before .args in
     let inner : digestOf (joined .result) ≡ hash sha256 (pad .result ++ (a .t2 ++ (a .separator ∷ (a .entropy .now ++ (a .nonce .now ++ a .personalization .now))))) =
-      joined .ensures ∙ ap (hash sha256) (simp append-assoc) in
+    joined .ensures ∙ ap (hash sha256) (simp append-assoc) in
     sym (rw (← pad .ensures, ← inner, ← c .before .before .pad-block2 .ensures, ← c .before .hash-behind .ensures))
 
 pub hmac-of-all-spec : {M : Type 1} → statement M

@@ -19,7 +19,7 @@ finish-requires c κs =
     let limits = c .before .before .before .before .before .before .before .before .before .pre in
     record {
       few = fed .few;
-      room = omega (arith, simp length-append at (fed .grown), simp length-append at (begun .grown), c .before .before .new .ensures .length-is, limits .0, limits .1)
+      room = omega (arith, simp length-append at (fed .grown), simp length-append at (begun .grown), c .before .before .new .ensures .length-is, limits .0, limits .1);
     }
 
 returns : tie.Need-returns
