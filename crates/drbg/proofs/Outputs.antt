@@ -9,7 +9,9 @@ use native.Mathlib.Omega.{arith}
 use lib.ListN.{length, take, drop, drop-of-length-le, length-append, length-take}
 use lib.Seq.{paste, take-paste, take-append-add, take-all, take-append-le, length-paste, take-at, length-paste-head}
 use Rattle.standard.specs.Strings.{ceiling}
+use Rattle.standard.specs.Hash.{hash}
 use Rattle.standard.specs.Hmac.{Key, hmac}
+use Rattle.standard.specs.HashDrbg.{stepped, hashgenTurns}
 use Rattle.standard.specs.HmacDrbg.{outputTurns}
 use Rattle.standard.specs.Sha256.{sha256}
 use Rattle.standard.proofs.Strings.{ceiling-unique}
@@ -63,3 +65,9 @@ pub output-more : (K : Key) (v : List ℕ) (i : ℕ) (w next : List ℕ) (n : �
     → outputTurns sha256 K v (i + 1) .value ≡ (outputTurns sha256 K v i .value .0 ++ next, next)
 unfolding outputTurns
 output-more K v i w next n w-is e = rw (add-one, ← w-is, ← e)
+
+-- one more turn of Hashgen's
+pub hashgen-more : (v : List ℕ) (i : ℕ) (now w next : List ℕ) → now ≡ hashgenTurns sha256 v i .value .1 → costing 1 w ≡ hash sha256 now → next ≡ stepped sha256 now 1
+    → hashgenTurns sha256 v (i + 1) .value ≡ (hashgenTurns sha256 v i .value .0 ++ w, next)
+unfolding hashgenTurns
+hashgen-more v i now w next now-is e step = rw (add-one, ← now-is, ← e, step)

@@ -52,6 +52,7 @@ update-some d u w n some once = update-halves d u ∙ rw (once, ifNull-some d (r
 pub half-sized : (separator : ℕ) (d : List ℕ) (u : Keyed) (K v : List ℕ) (n : ℕ) → record { value = keyed K v; blocks = n } ≡ half separator d u
     → (length K ≡ 32) × (length v ≡ 32)
 unfolding half
-half-sized separator d u K v n e =
-    (ap (λ (m : Metered Keyed). length (m .value .K .bytes)) e ∙ length-rekey sha256 _ _,
-    ap (λ (m : Metered Keyed). length (m .value .v)) e ∙ length-hmac sha256 _ _)
+half-sized separator d u K v n e = (
+  ap (λ (m : Metered Keyed). length (m .value .K .bytes)) e ∙ length-rekey sha256 _ _,
+  ap (λ (m : Metered Keyed). length (m .value .v)) e ∙ length-hmac sha256 _ _,
+)

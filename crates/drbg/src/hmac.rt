@@ -1,4 +1,5 @@
 // FIPS 198-1: HMAC under a key of 32 bytes.
+use crate::copies;
 use crate::joined;
 use sha256::digest;
 use sha256::rounds;
@@ -32,9 +33,7 @@ fn last_block(v: [u8; 32]) -> [u8; 64]
     let mut block = [0u8; 64];
     block[32] = 128;
     block[62] = 3;
-    for i in 0..32 {
-        block[i] = v[i];
-    }
+    copies::copy(&mut block, 0, &v);
     block
 }
 

@@ -1,4 +1,5 @@
 // The lent output, filled in place one hash after the other.
+use crate::copies;
 ghost use mathlib.Core.Path.{_≡_};
 ghost use Prim.Native.Nat.{_-_, _<_, min};
 ghost use lib.ListN.{length};
@@ -16,7 +17,5 @@ pub fn store(out: &mut [u8], at: usize, w: [u8; 32])
     ensures { λ _. ⌜ now (out .exit) ≡ paste (now (out .entry)) at w (min 32 (length (now (out .entry)) - at)) ⌝ }
 {
     let n = least(32, out.len() - at);
-    for i in 0..n {
-        out[at + i] = w[i];
-    }
+    copies::copy(out, at, &w[..n]);
 }

@@ -11,17 +11,17 @@ use Rattle.standard.specs.Strings.{numberOf}
 use Rattle.standard.specs.Hash.{wordAt}
 use Rattle.standard.specs.Sha256.{sha256}
 
-next : (s : List ℕ) (i : ℕ) → i < length s → drop i s ≡ getD s i 0 ∷ drop (i + 1) s
-next s i h = rw (add-one, drop-cons s i 0)
+pub drop-more : (s : List ℕ) (i : ℕ) → i < length s → drop i s ≡ getD s i 0 ∷ drop (i + 1) s
+drop-more s i h = rw (add-one, drop-cons s i 0)
 
 four-bytes : (s : List ℕ) (i : ℕ) → i + 4 ≤ length s → take 4 (drop i s) ≡ getD s i 0 ∷ getD s (i + 1) 0 ∷ getD s (i + 1 + 1) 0 ∷ getD s (i + 1 + 1 + 1) 0 ∷ []
 four-bytes s i h =
     ap (take 4)
-    (next s i (omega arith) ∙
+    (drop-more s i (omega arith) ∙
     ap (λ r. getD s i 0 ∷ r)
-    (next s (i + 1) (omega arith) ∙
+    (drop-more s (i + 1) (omega arith) ∙
     ap (λ r. getD s (i + 1) 0 ∷ r)
-    (next s (i + 1 + 1) (omega arith) ∙ ap (λ r. getD s (i + 1 + 1) 0 ∷ r) (next s (i + 1 + 1 + 1) (omega arith)))))
+    (drop-more s (i + 1 + 1) (omega arith) ∙ ap (λ r. getD s (i + 1 + 1) 0 ∷ r) (drop-more s (i + 1 + 1 + 1) (omega arith)))))
 
 pub word-at-bytes : (s : List ℕ) (t : ℕ) → 4 * t + 4 ≤ length s
     → wordAt sha256 s t ≡ getD s (4 * t) 0 * 16777216 + getD s (4 * t + 1) 0 * 65536 + getD s (4 * t + 2) 0 * 256 + getD s (4 * t + 3) 0

@@ -40,15 +40,16 @@ loop-again c =
     let next = c .before .before .before .before .hmac-of in
     let turn : (l .at + 32) / 32 ≡ l .at / 32 + 1 = omega arith in
     let more : made (a .key) (a .v) (l .at + 32) ≡ (made (a .key) (a .v) (l .at) .0 ++ next .result, next .result) =
-      ap (λ i. outputTurns sha256 (ready (a .key)) (a .v) i .value) turn ∙
-      (output-more (ready (a .key)) (a .v) (l .at / 32) (l .w) (next .result) 4 (l .inv .5) (next .ensures)) in
-    let size : length (made (a .key) (a .v) (l .at) .0) ≡ l .at = length-outputTurns sha256 (ready (a .key)) (a .v) (l .at / 32) ∙ omega arith in
-    (search needs,
-    search needs,
-    search needs,
-    search needs,
-    turn-stored (made (a .key) (a .v) (l .at) .0) (next .result) (l .out) _ (l .at) _ more (l .inv .2) (omega arith) size (omega arith) (l .inv .4) (c .before .before .store .ensures),
-    sym (ap (λ t. t .1) more))
+    ap (λ i. outputTurns sha256 (ready (a .key)) (a .v) i .value) turn ∙
+    (output-more (ready (a .key)) (a .v) (l .at / 32) (l .w) (next .result) 4 (l .inv .5) (next .ensures)) in
+    let size : length (made (a .key) (a .v) (l .at) .0) ≡ l .at = length-outputTurns sha256 (ready (a .key)) (a .v) (l .at / 32) ∙ omega arith in (
+      search needs,
+      search needs,
+      search needs,
+      search needs,
+      turn-stored (made (a .key) (a .v) (l .at) .0) (next .result) (l .out) _ (l .at) _ more (l .inv .2) (omega arith) size (omega arith) (l .inv .4) (c .before .before .store .ensures),
+      sym (ap (λ t. t .1) more),
+    )
 
 returns : tie.Need-returns Inv-loop μ-loop
 returns c =

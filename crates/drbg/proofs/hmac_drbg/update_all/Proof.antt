@@ -26,11 +26,12 @@ add-t18 c =
     let sizes = half-sized 0x00 _ _ _ _ _ (once .ensures) in
     record {
       fits =
-          omega
-          (arith,
-          simp length-append at (ap (λ m. m .blocks) (once .ensures) ∙ half-blocks (a .key) (a .v) (omega (arith, start)) (omega (arith, start)) 0x00 _),
-          simp length-append at (ap (λ m. m .blocks) (twice .ensures) ∙ half-blocks (once .result .key) (once .result .v) (sizes .0) (sizes .1) 0x01 _),
-          start .pre)
+          omega (
+            arith,
+            simp length-append at (ap (λ m. m .blocks) (once .ensures) ∙ half-blocks (a .key) (a .v) (omega (arith, start)) (omega (arith, start)) 0x00 _),
+            simp length-append at (ap (λ m. m .blocks) (twice .ensures) ∙ half-blocks (once .result .key) (once .result .v) (sizes .0) (sizes .1) 0x01 _),
+            start .pre,
+          );
     }
 
 returns-2 : tie.Need-returns-2

@@ -1,39 +1,26 @@
--- The first i bytes at each i. Assumes nothing.
-use Prim.Native.Nat.{_+_, _-_, _≤_}
-use mathlib.Core.Path.{_≡_, sym, ap, _∙_}
-use native.Mathlib.Numerals.{add-one}
+-- What fits of w. Assumes nothing.
+use mathlib.Core.Path.{sym, ap, _∙_}
 use native.Mathlib.Omega.{arith}
-use lib.ListN.{length, set, getD}
-use lib.Seq.{paste, paste-zero, paste-suc}
+use lib.Seq.{length-take-le, paste}
+use Rattle.drbg.proofs.Pasted.{pasted-part}
 use borrow.Author.Needs.{needs}
 use Rattle.drbg.proofs.output.store.Statement.{statement}
 use Rattle.drbg.proofs.output.store.Tie as tie
 
-abbrev Inv-loop : tie.InvT-loop
-Inv-loop out₀ at w n i₀ out i = (i ≤ n) × (length out ≡ length out₀) × (length w ≡ 32) × (out ≡ paste out₀ at w i)
+slice-aggregate-copy : tie.Need-slice-aggregate-copy
+slice-aggregate-copy c = sym (length-take-le (c .before .before .least .result) (c .before .before .before .before .args .t3) (omega arith))
 
-abbrev μ-loop : tie.MeasureT-loop
-μ-loop out₀ at w n i₀ out i = n - i
+copy-requires : tie.Need-copy-requires
+copy-requires c κs =
+    let part = length-take-le (c .before .before .least .result) (c .before .before .before .before .args .t3) (omega arith) in
+    omega (arith, part)
 
-loop-holds : tie.Need-loop-holds Inv-loop μ-loop
-loop-holds c = (search needs, search needs, search needs, paste-zero _ (c .before .before .args .at) (c .before .before .args .t3))
-
-loop-again : tie.Need-loop-again Inv-loop μ-loop
-loop-again c =
-    let l = c .before .loop in
-    let a = c .before .before .before .before .args in
-    (search needs,
-    search needs,
-    search needs,
-    ap (λ o. set o (a .at + l .i) (getD (a .t3) (l .i) 0)) (l .inv .3) ∙
-    paste-suc (a .out .now) (a .at) (a .t3) (l .i) 0 (omega arith) (omega arith) ∙
-    ap (λ k. paste (a .out .now) (a .at) (a .t3) k) (sym (add-one (l .i))))
-
-returns : tie.Need-returns Inv-loop μ-loop
+returns : tie.Need-returns
 returns c =
-    let l = c .before .loop in
-    let all : l .i ≡ c .before .before .least .result = omega arith in
-    l .inv .3 ∙ rw (all, c .before .before .least .ensures)
+    let a = c .before .before .before .before .before .before .before .args in
+    c .before .before .copy .ensures ∙
+    pasted-part (a .out .now) (a .t3) (a .at) (c .before .before .before .before .before .least .result) (omega arith) ∙
+    ap (paste (a .out .now) (a .at) (a .t3)) (c .before .before .before .before .before .least .ensures)
 
 pub store-spec : {M : Type 1} → statement M
-store-spec = tie.close (tie.spec Inv-loop μ-loop (λ c. search needs) (λ c κs. search needs) loop-holds (λ c. search needs) (λ c. search needs) (λ c. search needs) (λ c. search needs) (λ c. search needs) loop-again (λ c. search needs) returns)
+store-spec = tie.close (tie.spec (λ c. search needs) (λ c κs. search needs) (λ c. search needs) slice-aggregate-copy copy-requires (λ c. search needs) returns)
