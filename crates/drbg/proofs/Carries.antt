@@ -11,7 +11,6 @@ use Rattle.standard.proofs.Strings.{numberOf-append, bytesOf-add, bytesOf-above
 use Rattle.sha256.proofs.Load.{drop-more}
 use Rattle.sha256.proofs.Stores.{length-part}
 
-
 module _ (a b : List ℕ) (at : ℕ) (a-long : at + 5 ≤ length a) (b-long : at + 5 ≤ length b) where
   split : (s : List ℕ) → at + 5 ≤ length s → numberOf (take (at + 5) s) ≡ numberOf (take at s) * 1099511627776 + numberOf (take 5 (drop at s))
   split s h =
@@ -25,7 +24,7 @@ module _ (a b : List ℕ) (at : ℕ) (a-long : at + 5 ≤ length a) (b-long : at
       let A = numberOf (take at a) in
       let B = numberOf (take at b) in
       let whole : numberOf (take (at + 5) a) + numberOf (take (at + 5) b) + carry ≡ (A + B) * 1099511627776 + total =
-        ap₂ (λ x y. x + y + carry) (split a a-long) (split b b-long) ∙ omega (arith, total-is) in
+      ap₂ (λ x y. x + y + carry) (split a a-long) (split b b-long) ∙ omega (arith, total-is) in
       let carried : ((A + B) * 1099511627776 + total) / 1099511627776 ≡ A + B + total / 1099511627776 = omega arith in
       ap (bytesOf (at + 5)) whole ∙
       bytesOf-add at 5 ((A + B) * 1099511627776 + total) ∙
@@ -52,12 +51,16 @@ limb-read s at h =
     let e₂ : at + 2 ≡ at + 1 + 1 = omega arith in
     let e₃ : at + 3 ≡ at + 1 + 1 + 1 = omega arith in
     let e₄ : at + 4 ≡ at + 1 + 1 + 1 + 1 = omega arith in
-    rw (e₂, e₃, e₄,
-    drop-more s at (omega arith),
-    drop-more s (at + 1) (omega arith),
-    drop-more s (at + 1 + 1) (omega arith),
-    drop-more s (at + 1 + 1 + 1) (omega arith),
-    drop-more s (at + 1 + 1 + 1 + 1) (omega arith))
+    rw (
+      e₂,
+      e₃,
+      e₄,
+      drop-more s at (omega arith),
+      drop-more s (at + 1) (omega arith),
+      drop-more s (at + 1 + 1) (omega arith),
+      drop-more s (at + 1 + 1 + 1) (omega arith),
+      drop-more s (at + 1 + 1 + 1 + 1) (omega arith),
+    )
     (omega arith)
 
 -- a limb stored as its five bytes

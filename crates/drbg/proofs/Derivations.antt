@@ -57,13 +57,13 @@ sum-widened v w wide x wide-is x-is = x-is ∙ rw (add-zero, wide-is, numberOf-w
 pub sum-twice : (v h moved c next : List ℕ) (counter : ℕ) → moved ≡ bytesOf 55 (numberOf v + numberOf h)
     → next ≡ bytesOf 55 (numberOf moved + numberOf c + counter) → next ≡ bytesOf 55 (numberOf v + (numberOf h + numberOf c + counter))
 sum-twice v h moved c next counter moved-is next-is =
-    let V = numberOf v in
-    let H = numberOf h in
-    let C = numberOf c in
-    let cut : numberOf moved ≡ (V + H) % 256 ^ 55 = ap numberOf moved-is ∙ numberOf-bytesOf 55 (V + H) in
-    let regrouped : (V + H) % 256 ^ 55 + C + counter ≡ (V + H) % 256 ^ 55 + (C + counter) = add-assoc ((V + H) % 256 ^ 55) C counter in
-    let whole : V + H + (C + counter) ≡ V + (H + C + counter) = sums V H C counter in
-    next-is ∙ ap (λ n. bytesOf 55 (n + C + counter)) cut ∙ ap (bytesOf 55) regrouped ∙ bytesOf-cut 55 (V + H) (C + counter) ∙ ap (bytesOf 55) whole
+    let value = numberOf v in
+    let hashed = numberOf h in
+    let constant = numberOf c in
+    let cut : numberOf moved ≡ (value + hashed) % 256 ^ 55 = ap numberOf moved-is ∙ numberOf-bytesOf 55 (value + hashed) in
+    let regrouped : (value + hashed) % 256 ^ 55 + constant + counter ≡ (value + hashed) % 256 ^ 55 + (constant + counter) = add-assoc ((value + hashed) % 256 ^ 55) constant counter in
+    let whole : value + hashed + (constant + counter) ≡ value + (hashed + constant + counter) = sums value hashed constant counter in
+    next-is ∙ ap (λ n. bytesOf 55 (n + constant + counter)) cut ∙ ap (bytesOf 55) regrouped ∙ bytesOf-cut 55 (value + hashed) (constant + counter) ∙ ap (bytesOf 55) whole
   where
     sums : (a b x y : ℕ) → a + b + (x + y) ≡ a + (b + x + y)
     sums a b x y = omega arith

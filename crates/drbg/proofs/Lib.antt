@@ -6,3 +6,4 @@ pub mod Updates
 pub mod Outputs
 pub mod Carries
 pub mod Derivations
+pub mod Standing

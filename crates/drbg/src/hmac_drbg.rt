@@ -3,7 +3,7 @@ use crate::hmac;
 use crate::output;
 ghost use mathlib.Core.Path.{_≡_};
 ghost use mathlib.Core.List.{_++_};
-ghost use Prim.Native.Nat.{_≤_};
+ghost use Prim.Native.Nat.{_+_, _≤_};
 ghost use lib.ListN.{length};
 ghost use Rattle.standard.specs.Strings.{ceiling, ifNull};
 ghost use Rattle.standard.specs.Metered.{return};
@@ -102,5 +102,19 @@ pub fn output_filled(key: [u8; 32], v: [u8; 32], out: &mut [u8]) -> Output
     Output {
         v: w,
         blocks: 4 * (at / 32) as u64,
+    }
+}
+
+// The same Key and V, with the blocks that were consumed before them.
+pub fn with_blocks(u: Updated, before: u64) -> Updated
+    requires { ⌜ (before ≤ 65536) × (u .blocks ≤ 65536) ⌝ }
+    ensures { λ r. ⌜ r ≡ record { key = u .key; v = u .v; blocks = before + u .blocks } ⌝ }
+{
+    let key = u.key;
+    let v = u.v;
+    Updated {
+        key,
+        v,
+        blocks: before + u.blocks,
     }
 }

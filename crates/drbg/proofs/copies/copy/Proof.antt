@@ -21,13 +21,14 @@ loop-holds c = (search needs, search needs, search needs, paste-zero _ (c .args 
 loop-again : tie.Need-loop-again Inv-loop μ-loop
 loop-again c =
     let l = c .before .before .loop in
-    let a = c .before .before .before .args in
-    (search needs,
-    search needs,
-    search needs,
-    ap (λ s. set s (a .at + l .i) (getD (a .from .now) (l .i) 0)) (l .inv .3) ∙
-    paste-suc (a .to .now) (a .at) (a .from .now) (l .i) 0 (omega arith) (omega arith) ∙
-    ap (paste (a .to .now) (a .at) (a .from .now)) (sym (add-one (l .i))))
+    let a = c .before .before .before .args in (
+      search needs,
+      search needs,
+      search needs,
+      ap (λ s. set s (a .at + l .i) (getD (a .from .now) (l .i) 0)) (l .inv .3) ∙
+          paste-suc (a .to .now) (a .at) (a .from .now) (l .i) 0 (omega arith) (omega arith) ∙
+          ap (paste (a .to .now) (a .at) (a .from .now)) (sym (add-one (l .i))),
+    )
 
 returns : tie.Need-returns Inv-loop μ-loop
 returns c =

@@ -16,12 +16,13 @@ add-t11 c =
     let part = length-taken (a .n) (a .lead) in
     record {
       fits =
-          omega
-          (arith,
-          part,
-          simp length-append at (ap (λ d. d .blocks) (c .before .before .before .before .before .before .counted-hash .ensures) ∙ sha256-hash _),
-          simp length-append at (ap (λ d. d .blocks) (c .before .before .before .before .before .counted-hash2 .ensures) ∙ sha256-hash _),
-          c .before .before .before .before .before .before .before .before .before .before .pre)
+          omega (
+            arith,
+            part,
+            simp length-append at (ap (λ d. d .blocks) (c .before .before .before .before .before .before .counted-hash .ensures) ∙ sha256-hash _),
+            simp length-append at (ap (λ d. d .blocks) (c .before .before .before .before .before .counted-hash2 .ensures) ∙ sha256-hash _),
+            c .before .before .before .before .before .before .before .before .before .before .pre,
+          );
     }
 
 returns : tie.Need-returns

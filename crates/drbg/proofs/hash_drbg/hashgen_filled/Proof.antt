@@ -43,14 +43,15 @@ loop-again c =
     let turn : (l .at + 32) / 32 ≡ l .at / 32 + 1 = omega arith in
     let moved : c .plus .result ≡ stepped sha256 (l .next) 1 = c .plus .ensures ∙ rw add-zero in
     let more : made v (l .at + 32) ≡ (made v (l .at) .0 ++ w .result, c .plus .result) =
-      ap (λ i. hashgenTurns sha256 v i .value) turn ∙ hashgen-more v (l .at / 32) (l .next) (w .result) (c .plus .result) (l .inv .5) (w .ensures) moved in
-    let size : length (made v (l .at) .0) ≡ l .at = length-hashgenTurns sha256 v (l .at / 32) ∙ omega arith in
-    (search needs,
-    search needs,
-    search needs,
-    search needs,
-    turn-stored (made v (l .at) .0) (w .result) (l .out) _ (l .at) _ more (l .inv .2) (omega arith) size (omega arith) (l .inv .4) (c .before .before .before .store .ensures),
-    sym (ap (λ t. t .1) more))
+    ap (λ i. hashgenTurns sha256 v i .value) turn ∙ hashgen-more v (l .at / 32) (l .next) (w .result) (c .plus .result) (l .inv .5) (w .ensures) moved in
+    let size : length (made v (l .at) .0) ≡ l .at = length-hashgenTurns sha256 v (l .at / 32) ∙ omega arith in (
+      search needs,
+      search needs,
+      search needs,
+      search needs,
+      turn-stored (made v (l .at) .0) (w .result) (l .out) _ (l .at) _ more (l .inv .2) (omega arith) size (omega arith) (l .inv .4) (c .before .before .before .store .ensures),
+      sym (ap (λ t. t .1) more),
+    )
 
 returns : tie.Need-returns Inv-loop μ-loop
 unfolding hashgen

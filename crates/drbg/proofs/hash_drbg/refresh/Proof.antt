@@ -29,7 +29,7 @@ returns-2 c =
     let led = c .before .before .before .before .before .before .before .led in
     let some : 0 < length (a .additional .now) = omega (arith, c .before .before .before .before .before .before .before .before .if1 .left) in
     let hashed : digestOf (w .result) ≡ hash sha256 (0x02 ∷ (a .v ++ a .additional .now)) =
-      w .ensures ∙ ap (hash sha256) (rw (append-nil (led .result), append-nil (a .additional .now), led .ensures)) in
+    w .ensures ∙ ap (hash sha256) (rw (append-nil (led .result), append-nil (a .additional .now), led .ensures)) in
     sym
     (rw (ifNull-some (a .additional .now) _ _ some, ← hashed, add-zero)
     (ap (λ s. costing (w .result .blocks) s) (sym (sum-widened (a .v) (w .result .bytes) (c .before .widened .result) (c .plus .result) (c .before .widened .ensures) (c .plus .ensures)))))

@@ -25,13 +25,14 @@ add-t13 c =
     let a = c .before .before .before .before .before .before .before .before .before .before .before .args in
     record {
       fits =
-          omega
-          (arith,
-          length-taken (a .n) (a .lead),
-          simp length-append at (ap (λ m. m .blocks) (c .before .before .before .before .before .before .before .derive .ensures) ∙ hashDf-count _),
-          ap (λ m. m .blocks) (behind (c .before .before .before)) ∙ hashDf-count _,
-          ap length (c .before .before .before .before .led .ensures),
-          c .before .before .before .before .before .before .before .before .before .before .before .pre)
+          omega (
+            arith,
+            length-taken (a .n) (a .lead),
+            simp length-append at (ap (λ m. m .blocks) (c .before .before .before .before .before .before .before .derive .ensures) ∙ hashDf-count _),
+            ap (λ m. m .blocks) (behind (c .before .before .before)) ∙ hashDf-count _,
+            ap length (c .before .before .before .before .led .ensures),
+            c .before .before .before .before .before .before .before .before .before .before .before .pre,
+          );
     }
 
 returns : tie.Need-returns

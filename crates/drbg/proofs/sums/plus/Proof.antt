@@ -31,18 +31,19 @@ loop-again : tie.Need-loop-again Inv-loop μ-loop
 loop-again c =
     let l = c .before .before .before .before .before .before .loop in
     let a = c .before .before .before .before .before .before .before .args in
-    let back : l .at ≡ l .at - 5 + 5 = omega arith in
-    (search needs,
-    search needs,
-    search needs,
-    search needs,
-    search needs,
-    search needs,
-    limb-done (a .t1) (a .t2) (l .at - 5) (omega arith) (omega arith) (l .carry) _ (l .sum) (c .with-limb .result) _
-    (ap₂ (λ x y. x + y + l .carry) (c .before .before .before .limb .ensures .0) (c .before .limb2 .ensures .0))
-    (omega arith)
-    (c .with-limb .ensures)
-    (rw back at (l .inv .6)))
+    let back : l .at ≡ l .at - 5 + 5 = omega arith in (
+      search needs,
+      search needs,
+      search needs,
+      search needs,
+      search needs,
+      search needs,
+      limb-done (a .t1) (a .t2) (l .at - 5) (omega arith) (omega arith) (l .carry) _ (l .sum) (c .with-limb .result) _
+          (ap₂ (λ x y. x + y + l .carry) (c .before .before .before .limb .ensures .0) (c .before .limb2 .ensures .0))
+          (omega arith)
+          (c .with-limb .ensures)
+          (rw back at (l .inv .6)),
+    )
 
 returns : tie.Need-returns Inv-loop μ-loop
 unfolding bytesOf
