@@ -8,8 +8,8 @@ use borrow.Author.Needs.{needs}
 use Prim.Native.Nat.{ℕ, _≤_, _-_}
 use mathlib.Core.Path.{_≡_}
 use mathlib.Core.List.{List}
-use lib.ListN.{length, take}
-use Rattle.standard.specs.Hash.{schedule}
+use lib.ListN.{length, take, getD}
+use Rattle.standard.specs.Hash.{plus, schedule}
 use Rattle.standard.specs.Sha256.{sha256}
 use Rattle.sha256.proofs.schedule.extended.Statement.{statement}
 use Rattle.sha256.proofs.schedule.extended.Tie as tie
@@ -116,12 +116,17 @@ loop-less c = search needs
 -- src/schedule.rt:45:5
 loop-again : tie.Need-loop-again Inv-loop μ-loop
 loop-again c =
-    let l = c .before .before .before .before .before .before .loop in (
+    let l = c .before .before .before .before .before .before .loop in
+    let first = c .before .before .before .before .lower-sigma-1 in
+    let recent : c .before .before .before .sum .result ≡ plus sha256 (first .result) (getD (l .w) (l .t - 7) 0) =
+    c .before .before .before .sum .ensures in (
       search needs,
       search needs,
       search needs,
       λ block sixteen.
-          later-word-stored sha256 block (l .w) (l .t) (c .sum3 .result) (omega arith) (l .inv .3 block sixteen) (l .inv .1) (cc),
+          later-word-stored sha256 block (l .w) (l .t) (c .sum3 .result) (omega arith) (l .inv .3 block sixteen) (l .inv .1)
+          (c .sum3 .ensures ∙
+          rw (c .before .sum2 .ensures, c .before .before .lower-sigma-0 .ensures, recent, first .ensures)),
     )
 
 -- src/schedule.rt:41:1

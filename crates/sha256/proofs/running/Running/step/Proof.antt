@@ -1,9 +1,11 @@
 -- What waits grows, or fills a block that is absorbed. Assumes nothing.
 use Prim.Native.Nat.{ℕ, _+_, _%_, _≤_, _<_}
 use mathlib.Core.Path.{_≡_, refl, sym, ap, _∙_}
+use mathlib.Core.Bool.{cond}
 use mathlib.Core.List.{List, _++_}
 use native.Mathlib.Nat.{mod-eq-of-lt}
 use native.Mathlib.Omega.{arith}
+use lib.Dec.{ltb}
 use lib.ListN.{length, take, drop, length-append}
 use Rattle.sha256.proofs.Feeding.{fed-part, fed-whole}
 use Rattle.sha256.proofs.Stores.{picked-block, length-before, length-part}
@@ -28,7 +30,9 @@ module _ (c : tie.After-pick) where
   unfolding waited
   block-is =
       let a = c .before .before .before .before .before .before .args in
-      c .pick .ensures ∙
+      let picked : c .pick .result .now ≡ cond (ltb (a .n) 64) (c .before .before .before .gathered .result) (take 64 (drop (a .at) (a .s .now))) =
+      c .pick .ensures in
+      picked ∙
       picked-block (c .before .before .before .gathered .result) (a .self .scratch) (a .s .now) (a .self .waiting) (a .at) (a .n)
       (omega arith) (omega arith) (c .before .before .before .gathered .ensures)
 

@@ -1,0 +1,71 @@
+-- The first i blocks at each i. Assumes nothing.
+use Prim.Native.Nat.{ℕ, _+_, _-_, _*_, _/_, _≤_}
+use mathlib.Core.Path.{_≡_, sym, ap, ap₂, _∙_}
+use mathlib.Core.List.{List}
+use native.Mathlib.Omega.{arith}
+use lib.ListN.{length, take, drop}
+use Rattle.standard.specs.Hash.{compressed, absorbed, blockAt}
+use Rattle.standard.specs.Sha256.{sha256}
+use Rattle.standard.proofs.Hash.{absorbed-more}
+use Rattle.sha256.specs.Values.{eightOf}
+use Rattle.sha256.proofs.Stores.{length-part}
+use borrow.Author.Needs.{needs}
+use Rattle.bare.proofs.purangsa_bare.Statement.{statement}
+use Rattle.bare.proofs.purangsa_bare.Tie as tie
+
+part : (text : List ℕ) (i : ℕ) → take (64 * i + 64 - 64 * i) (drop (64 * i) text) ≡ blockAt sha256 text i
+unfolding blockAt
+part text i =
+    let size : 64 * i + 64 - 64 * i ≡ 64 = omega arith in
+    ap (λ n. take n (drop (64 * i) text)) size
+
+abbrev Inv-loop : tie.InvT-loop
+Inv-loop text blocks s₀ i₀ s i = (i ≤ blocks) × (eightOf s ≡ absorbed sha256 text i (sha256 .initial) .value)
+
+abbrev μ-loop : tie.MeasureT-loop
+μ-loop text blocks s₀ i₀ s i = blocks - i
+
+loop-holds : tie.Need-loop-holds Inv-loop μ-loop
+unfolding absorbed
+loop-holds c = (search needs, c .initial .ensures)
+
+compress-requires : tie.Need-compress-requires Inv-loop μ-loop
+compress-requires c κs =
+    let i = c .before .before .loop .i in
+    let text = c .before .before .before .before .before .args .text .now in
+    let size : 64 * i + 64 - 64 * i ≡ 64 = omega arith in
+    rw size (length-part text (64 * i) 64 (omega arith))
+
+loop-again : tie.Need-loop-again Inv-loop μ-loop
+loop-again c =
+    let l = c .before .before .before .loop in
+    let text = c .before .before .before .before .before .before .args .text .now in (
+      search needs,
+      c .compress .ensures ∙ ap₂ (compressed sha256) (l .inv .1) (part text (l .i)) ∙ sym (absorbed-more sha256 text (l .i) (sha256 .initial)),
+    )
+
+returns : tie.Need-returns Inv-loop μ-loop
+returns c =
+    let l = c .before .loop in
+    let text = c .before .before .before .before .args .text .now in
+    let all : l .i ≡ length text / 64 = omega arith in
+    ap (λ s. s .a) (l .inv .1 ∙ ap (λ n. absorbed sha256 text n (sha256 .initial) .value) all)
+
+pub purangsa-bare-spec : {M : Type 1} → statement M
+purangsa-bare-spec =
+    tie.close
+    (tie.spec
+    Inv-loop
+    μ-loop
+    (λ c κs. search needs)
+    loop-holds
+    (λ c. search needs)
+    (λ c. search needs)
+    (λ c. search needs)
+    (λ c. search needs)
+    (λ c. search needs)
+    compress-requires
+    (λ c. search needs)
+    (λ c. search needs)
+    loop-again
+    returns)

@@ -1,0 +1,90 @@
+// Hashes the files that its arguments name. A line holds the name, the size of the pieces in which the bytes were fed
+// (0: as one string), the blocks and the digest. The pieces end inside the blocks, on their ends and across them.
+use libc::STDOUT_FILENO;
+use sha256::running;
+use sha256::running::Digest;
+use sha256::running::Running;
+ghost use mathlib.Core.Path.{_≡_};
+ghost use Prim.Native.Nat.{_<_, min};
+ghost use Rattle.standard.specs.Hash.{hash};
+ghost use Rattle.standard.specs.Sha256.{sha256};
+ghost use Rattle.sha256.specs.Values.{digestOf};
+
+fn wide(b: u8) -> u64 {
+    b as u64
+}
+
+fn print_bytes(bytes: [u8; 32]) {
+    for i in 0..32 {
+        io::print_hex(STDOUT_FILENO, wide(bytes[i]), 2);
+    }
+}
+
+fn print_line(name: &[u8], size: usize, d: Digest) {
+    io::write_all(STDOUT_FILENO, name);
+    io::write_all(STDOUT_FILENO, b" ");
+    io::print_decimal(STDOUT_FILENO, size as u64);
+    io::write_all(STDOUT_FILENO, b" ");
+    io::print_decimal(STDOUT_FILENO, d.blocks);
+    io::write_all(STDOUT_FILENO, b" ");
+    let bytes = d.bytes;
+    print_bytes(bytes);
+    io::write_all(STDOUT_FILENO, b"\n");
+}
+
+fn least(a: usize, b: usize) -> usize
+    ensures { λ r. ⌜ r ≡ min a b ⌝ }
+{
+    if a < b { a } else { b }
+}
+
+// The hash of s, fed in pieces of `size` bytes.
+fn in_pieces(s: &[u8], size: usize) -> Digest
+    requires { ⌜ 0 < size ⌝ }
+    ensures { λ r. ⌜ digestOf r ≡ hash sha256 (now (s .entry)) ⌝ }
+{
+    let mut h = Running::new();
+    let mut at = 0;
+    while at < s.len() {
+        let n = least(size, s.len() - at);
+        let next = h.update(&s[at..at + n]);
+        h = next;
+        at += n;
+    }
+    h.finish().digest()
+}
+
+fn print_pieces(name: &[u8], message: &[u8], size: usize)
+    requires { ⌜ 0 < size ⌝ }
+{
+    print_line(name, size, in_pieces(message, size));
+}
+
+fn print_all(name: &[u8], message: &[u8]) {
+    print_line(name, 0, running::hash_of(message));
+    print_pieces(name, message, 1);
+    print_pieces(name, message, 63);
+    print_pieces(name, message, 64);
+    print_pieces(name, message, 65);
+    print_pieces(name, message, 200);
+}
+
+fn hash_file(i: usize) {
+    let mut name = io::buffer();
+    let n = os::arg(i, &mut name);
+    let fd = os::open_read(&name[..n]);
+    if fd < 0 {
+        os::fail(&name[..n]);
+        return;
+    }
+    let mut message = [0u8; 8192];
+    let length = io::read_full(fd, &mut message);
+    libc::close(fd);
+    print_all(&name[..n], &message[..length]);
+}
+
+fn main() {
+    for i in 1..os::arg_count() {
+        hash_file(i);
+    }
+}
