@@ -1,4 +1,5 @@
 -- The six kinds of record, kind first, each with its fields in order; what a record says, and how it is written.
+-- The kind is a number as any other.
 use Prim.Native.Nat.{ℕ, _^_, _<_, _≤_}
 use mathlib.Core.Bool.{cond}
 use mathlib.Core.List.{List, [], _∷_, _++_}
@@ -10,7 +11,7 @@ use Rattle.book.specs.Strings.{stringAt, bytesOf, stringBytes}
 use Rattle.book.specs.declared.record.Record.{Record}
 use Rattle.book.specs.declared.record.Record.the-variants.{Open, Reseed, Draw, FreshDraw, Close, Inquire}
 
--- 1
+-- 1, open
 unfoldable pub openAt : Reader Record
 openAt = do
   mechanism ← numberAt
@@ -22,7 +23,7 @@ openAt = do
   personalization ← stringAt
   return (Open mechanism strength interval fresh entropy nonce personalization)
 
--- 2
+-- 2, reseed
 unfoldable pub reseedAt : Reader Record
 reseedAt = do
   handle ← numberAt
@@ -30,7 +31,7 @@ reseedAt = do
   additional ← stringAt
   return (Reseed handle entropy additional)
 
--- 3
+-- 3, draw
 unfoldable pub drawAt : Reader Record
 drawAt = do
   handle ← numberAt
@@ -39,7 +40,7 @@ drawAt = do
   additional ← stringAt
   return (Draw handle strength length additional)
 
--- 4
+-- 4, fresh draw
 unfoldable pub freshDrawAt : Reader Record
 freshDrawAt = do
   handle ← numberAt
@@ -49,13 +50,13 @@ freshDrawAt = do
   additional ← stringAt
   return (FreshDraw handle strength length entropy additional)
 
--- 5
+-- 5, close
 unfoldable pub closeAt : Reader Record
 closeAt = do
   handle ← numberAt
   return (Close handle)
 
--- 6
+-- 6, inquire
 unfoldable pub inquireAt : Reader Record
 inquireAt = do
   handle ← numberAt

@@ -3,6 +3,7 @@ use book::line;
 use book::record;
 use book::record::Record;
 use book::record::RecordAt;
+use book::string;
 use book::string::Part;
 use libc::STDIN_FILENO;
 use libc::STDOUT_FILENO;
@@ -20,14 +21,6 @@ ghost use Rattle.book.proofs.Records.{PartsIn};
 pub struct Ran {
     pub table: Table,
     pub end: usize,
-}
-
-fn part<'a>(s: &'a [u8], p: Part) -> &'a [u8]
-    requires { ⌜ p .start + p .length ≤ length (now s) ⌝ }
-{
-    let start = p.start;
-    let end = start + p.length;
-    &s[start..end]
 }
 
 fn shown(text: &mut [u8], kind: u64, a: Answer, drawn: &[u8]) -> Ran
@@ -54,7 +47,13 @@ fn run_draw(
     ensures { λ r. ⌜ r .end ≤ length (now (text .entry)) ⌝ }
 {
     let n = request as usize;
-    let a = calls::draw(t, handle, strength, &mut out[..n], part(s, additional));
+    let a = calls::draw(
+        t,
+        handle,
+        strength,
+        &mut out[..n],
+        string::bytes_of(s, additional),
+    );
     shown(text, 3, a, &out[..n])
 }
 
@@ -74,14 +73,14 @@ fn run_fresh_draw(
     ensures { λ r. ⌜ r .end ≤ length (now (text .entry)) ⌝ }
 {
     let n = request as usize;
-    let lent = part(s, entropy);
+    let lent = string::bytes_of(s, entropy);
     let a = calls::fresh_draw(
         t,
         handle,
         strength,
         &mut out[..n],
         lent,
-        part(s, additional),
+        string::bytes_of(s, additional),
     );
     shown(text, 4, a, &out[..n])
 }
@@ -102,8 +101,8 @@ fn run_record(t: Table, s: &[u8], r: Record, out: &mut [u8], text: &mut [u8]) ->
             nonce,
             personalization,
         } => {
-            let lent = part(s, entropy);
-            let once = part(s, nonce);
+            let lent = string::bytes_of(s, entropy);
+            let once = string::bytes_of(s, nonce);
             let a = calls::open(
                 t,
                 mechanism,
@@ -112,7 +111,7 @@ fn run_record(t: Table, s: &[u8], r: Record, out: &mut [u8], text: &mut [u8]) ->
                 fresh == 1,
                 lent,
                 once,
-                part(s, personalization),
+                string::bytes_of(s, personalization),
             );
             shown(text, 1, a, none)
         }
@@ -121,8 +120,8 @@ fn run_record(t: Table, s: &[u8], r: Record, out: &mut [u8], text: &mut [u8]) ->
             entropy,
             additional,
         } => {
-            let lent = part(s, entropy);
-            let a = calls::reseed(t, handle, lent, part(s, additional));
+            let lent = string::bytes_of(s, entropy);
+            let a = calls::reseed(t, handle, lent, string::bytes_of(s, additional));
             shown(text, 2, a, none)
         }
         Record::Draw {

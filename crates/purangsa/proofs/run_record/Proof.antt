@@ -6,20 +6,20 @@ use borrow.Author.Needs.{needs}
 use Rattle.purangsa.proofs.run_record.Statement.{statement}
 use Rattle.purangsa.proofs.run_record.Tie as tie
 
-part-requires : tie.Need-part-requires
-part-requires c κs = subst (PartsIn (c .before .before .before .before .before .before .before .args .s .now)) (c .before .r .given .1) (c .before .before .before .before .before .before .before .pre .0 .1) .0
+bytes-of-requires : tie.Need-bytes-of-requires
+bytes-of-requires c κs = subst (PartsIn (c .before .before .before .before .before .before .before .args .s .now)) (c .before .r .given .1) (c .before .before .before .before .before .before .before .pre .0 .1) .0
 
-part-requires-2 : tie.Need-part-requires-2
-part-requires-2 c κs = subst (PartsIn (c .before .before .before .before .before .before .before .before .args .s .now)) (c .before .before .r .given .1) (c .before .before .before .before .before .before .before .before .pre .0 .1) .1
+bytes-of-requires-2 : tie.Need-bytes-of-requires-2
+bytes-of-requires-2 c κs = subst (PartsIn (c .before .before .before .before .before .before .before .before .args .s .now)) (c .before .before .r .given .1) (c .before .before .before .before .before .before .before .before .pre .0 .1) .1
 
-part-requires-3 : tie.Need-part-requires-3
-part-requires-3 c κs = subst (PartsIn (c .before .before .before .before .before .before .before .before .before .args .s .now)) (c .before .before .before .r .given .1) (c .before .before .before .before .before .before .before .before .before .pre .0 .1) .2
+bytes-of-requires-3 : tie.Need-bytes-of-requires-3
+bytes-of-requires-3 c κs = subst (PartsIn (c .before .before .before .before .before .before .before .before .before .args .s .now)) (c .before .before .before .r .given .1) (c .before .before .before .before .before .before .before .before .before .pre .0 .1) .2
 
-part-requires-4 : tie.Need-part-requires-4
-part-requires-4 c κs = subst (PartsIn (c .before .before .before .before .before .before .before .args .s .now)) (c .before .r2 .given .1) (c .before .before .before .before .before .before .before .pre .0 .1) .0
+bytes-of-requires-4 : tie.Need-bytes-of-requires-4
+bytes-of-requires-4 c κs = subst (PartsIn (c .before .before .before .before .before .before .before .args .s .now)) (c .before .r2 .given .1) (c .before .before .before .before .before .before .before .pre .0 .1) .0
 
-part-requires-5 : tie.Need-part-requires-5
-part-requires-5 c κs = subst (PartsIn (c .before .before .before .before .before .before .before .before .args .s .now)) (c .before .before .r2 .given .1) (c .before .before .before .before .before .before .before .before .pre .0 .1) .1
+bytes-of-requires-5 : tie.Need-bytes-of-requires-5
+bytes-of-requires-5 c κs = subst (PartsIn (c .before .before .before .before .before .before .before .before .args .s .now)) (c .before .before .r2 .given .1) (c .before .before .before .before .before .before .before .before .pre .0 .1) .1
 
 run-draw-requires : tie.Need-run-draw-requires
 run-draw-requires c κs =
@@ -36,4 +36,4 @@ run-fresh-draw-requires c κs =
     ((parts .0, parts .1, fits .2), c .before .before .before .before .before .before .before .before .before .pre .1)
 
 pub run-record-spec : {M : Type 1} → statement M
-run-record-spec = tie.close (tie.spec (λ c. search needs) (λ c. search needs) part-requires part-requires-2 part-requires-3 (λ c κs. search needs) (λ c κs. search needs) (λ c. search needs) part-requires-4 part-requires-5 (λ c κs. search needs) (λ c κs. search needs) (λ c. search needs) run-draw-requires (λ c. search needs) run-fresh-draw-requires (λ c. search needs) (λ c κs. search needs) (λ c κs. search needs) (λ c. search needs) (λ c κs. search needs) (λ c κs. search needs) (λ c. search needs) (λ c. search needs) (λ c. search needs) (λ c. search needs) (λ c. search needs) (λ c. search needs) (λ c. search needs) (λ c. search needs) (λ c. search needs) (λ c. search needs) (λ c. search needs) (λ c. search needs) (λ c. search needs) (λ c. search needs))
+run-record-spec = tie.close (tie.spec (λ c. search needs) (λ c. search needs) bytes-of-requires bytes-of-requires-2 bytes-of-requires-3 (λ c κs. search needs) (λ c κs. search needs) (λ c. search needs) bytes-of-requires-4 bytes-of-requires-5 (λ c κs. search needs) (λ c κs. search needs) (λ c. search needs) run-draw-requires (λ c. search needs) run-fresh-draw-requires (λ c. search needs) (λ c κs. search needs) (λ c κs. search needs) (λ c. search needs) (λ c κs. search needs) (λ c κs. search needs) (λ c. search needs) (λ c. search needs) (λ c. search needs) (λ c. search needs) (λ c. search needs) (λ c. search needs) (λ c. search needs) (λ c. search needs) (λ c. search needs) (λ c. search needs) (λ c. search needs) (λ c. search needs) (λ c. search needs) (λ c. search needs))
