@@ -1,0 +1,2 @@
+-- The three demands, by subject.
+pub mod Outcome

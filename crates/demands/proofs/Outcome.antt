@@ -1,0 +1,84 @@
+-- The one view of how a call comes out: refused by its first reason, or served. Assumes nothing.
+use mathlib.Core.Path.{_≡_, refl, sym, subst}
+use mathlib.Core.Bool.{Bool, true, false, cond}
+use mathlib.Core.List.{List, []}
+use Prim.Native.Nat.{ℕ, suc, _+_, _-_, _%_}
+use lib.Dec.{eqb}
+use lib.ListN.{length}
+use Rattle.slots.specs.Layout.{freeSlot, withSlot, lastSerial}
+use Rattle.slots.specs.Handle.{slotOf, lowestFree}
+use Rattle.slots.specs.declared.layout.Table.{Table}
+use Rattle.table.specs.Reasons.{Reasons, firstOf, rounded}
+use Rattle.table.specs.Answers.{Reply, refused, accepted, decided, stepped, steppedDraw, newSlot, installed}
+use Rattle.table.specs.Served.{opened, reseeded, drawn, freshDrawn}
+use Rattle.table.specs.Opening.{openReasons, openOf}
+use Rattle.table.specs.Reseeding.{reseedReasons, reseedOf}
+use Rattle.table.specs.Drawing.{drawReasons, drawOf}
+use Rattle.table.specs.FreshDrawing.{freshDrawReasons, freshDrawOf}
+use Rattle.table.specs.Closing.{closeReasons, closeOf}
+use Rattle.table.specs.Inquiring.{inquireReasons, inquireOf}
+use Rattle.table.specs.declared.answers.Answer.{Answer}
+use Rattle.table.proofs.FirstReason.{numbered, NoneHolds, First}
+use Rattle.table.proofs.Outcomes.{Decision, decision}
+use Rattle.demands.specs.Calls.{Call, opens, reseeds, draws, freshDraws, closes, inquires, reply, reasonsOf, lent}
+
+-- refused: the table and the lent output as they were, 0 blocks and value 0
+abbrev pub refusal : Table → Call → (n : ℕ) → Reply
+refusal t c n = record { answer = refused t n; output = lent c }
+
+-- what is served where no reason holds
+abbrev pub service : Table → Call → Reply
+service t (opens mechanism strength interval fresh entropy nonce personalization) =
+    let new = opened mechanism entropy nonce personalization in
+    record {
+      answer =
+          installed t (lowestFree t 0 16) (lastSerial t + 1)
+          (newSlot mechanism (rounded strength) interval fresh (lastSerial t + 1) (new .generator)) (new .blocks);
+      output = [];
+    }
+service t (reseeds handle entropy additional) =
+    record { answer = stepped t (handle % 16) (reseeded (slotOf t handle) entropy additional); output = [] }
+service t (draws handle strength out additional) = steppedDraw t (handle % 16) (drawn (slotOf t handle) (length out) additional)
+service t (freshDraws handle strength out entropy additional) =
+    steppedDraw t (handle % 16) (freshDrawn (slotOf t handle) (length out) entropy additional)
+service t (closes handle) = record { answer = accepted (withSlot t (handle % 16) freeSlot) 0 0; output = [] }
+service t (inquires handle) =
+    let s = slotOf t handle in
+    record { answer = accepted t 0 (s .interval + 1 - s .counter); output = [] }
+
+abbrev pub Outcome : Table → Call → Reply → Type 0
+Outcome t c = Decision (reasonsOf t c) (refusal t c) (service t c)
+
+pub all-numbered : (t : Table) (c : Call) → numbered (reasonsOf t c) ≡ true
+unfolding openReasons reseedReasons drawReasons freshDrawReasons closeReasons inquireReasons
+all-numbered t (opens mechanism strength interval fresh entropy nonce personalization) = refl
+all-numbered t (reseeds handle entropy additional) = refl
+all-numbered t (draws handle strength out additional) = refl
+all-numbered t (freshDraws handle strength out entropy additional) = refl
+all-numbered t (closes handle) = refl
+all-numbered t (inquires handle) = refl
+
+abbrev alone : Answer → Reply
+alone a = record { answer = a; output = [] }
+
+alone-decided : (reasons : Reasons) (refusal : ℕ → Answer) (served : Answer)
+    → alone (decided reasons refusal served) ≡ decided reasons (λ n. alone (refusal n)) (alone served)
+unfolding decided
+alone-decided reasons refusal served = go (eqb (firstOf reasons) 0)
+  where
+    go : (b : Bool) → alone (cond b served (refusal (firstOf reasons))) ≡ cond b (alone served) (alone (refusal (firstOf reasons)))
+    go true = refl
+    go false = refl
+
+pub reply-decided : (t : Table) (c : Call) → reply t c ≡ decided (reasonsOf t c) (refusal t c) (service t c)
+unfolding openOf reseedOf drawOf freshDrawOf closeOf inquireOf
+reply-decided t (opens mechanism strength interval fresh entropy nonce personalization) = alone-decided _ _ _
+reply-decided t (reseeds handle entropy additional) = alone-decided _ _ _
+reply-decided t (draws handle strength out additional) = refl
+reply-decided t (freshDraws handle strength out entropy additional) = refl
+reply-decided t (closes handle) = alone-decided _ _ _
+reply-decided t (inquires handle) = alone-decided _ _ _
+
+pub outcome : (t : Table) (c : Call) → Outcome t c (reply t c)
+outcome t c =
+    subst (Outcome t c) (sym (reply-decided t c)) (decision (reasonsOf t c) (refusal t c) (service t c) (all-numbered t c))

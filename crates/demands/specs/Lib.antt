@@ -1,0 +1,2 @@
+-- Calls and sequences of calls on a table.
+pub mod Calls
