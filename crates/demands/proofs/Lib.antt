@@ -1,2 +1,5 @@
 -- The three demands, by subject.
 pub mod Outcome
+pub mod Answered
+pub mod Kept
+pub mod Moves

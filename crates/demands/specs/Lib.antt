@@ -1,2 +1,3 @@
 -- Calls and sequences of calls on a table.
 pub mod Calls
+pub mod Handles
