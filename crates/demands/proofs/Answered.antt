@@ -17,12 +17,8 @@ use Rattle.drbg.specs.Generator.{filled}
 use Rattle.table.proofs.FirstReason.{NoneHolds, First, this, later}
 use Rattle.table.proofs.Outcomes.{Decision, refusing, serving}
 use Rattle.demands.specs.Calls.{Call, opens, reseeds, draws, freshDraws, closes, inquires, reply, number, reasonsOf, order, lent}
+use Rattle.demands.specs.Handles.{Listed, here, there}
 use Rattle.demands.proofs.Outcome.{refusal, service, Outcome, outcome}
-
--- a number of a list
-pub data Listed (n : ℕ) : List ℕ → Type 0 where
-  here : {l : List ℕ} → Listed n (n ∷ l)
-  there : {m : ℕ} {l : List ℕ} → Listed n l → Listed n (m ∷ l)
 
 abbrev pub numbersOf : Reasons → List ℕ
 numbersOf served = []

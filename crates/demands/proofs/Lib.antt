@@ -3,3 +3,4 @@ pub mod Outcome
 pub mod Answered
 pub mod Kept
 pub mod Moves
+pub mod Handles
