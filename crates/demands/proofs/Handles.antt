@@ -56,7 +56,7 @@ module _ (t : Table) (h : ℕ) (whole : sound t ≡ true) (none : names t h ≡ 
       ap (λ (r : Reply). r .answer .number)
       (reply-decided t c ∙ sym (refused-by (reasonsOf t c) (refusal t c) (service t c) 2 (first-two under) two-not-zero))
 
-names-same : (t u : Table) (h : ℕ) → slotOf u h ≡ slotOf t h → names u h ≡ names t h
+pub names-same : (t u : Table) (h : ℕ) → slotOf u h ≡ slotOf t h → names u h ≡ names t h
 unfolding names
 names-same t u h same = rw same
 
@@ -64,7 +64,7 @@ false-unless : (b : Bool) → (b ≡ true → ⊥) → b ≡ false
 false-unless true f = absurd (f refl)
 false-unless false f = refl
 
-same-parts : (g h : ℕ) → g % 16 ≡ h % 16 → g / 16 ≡ h / 16 → g ≡ h
+pub same-parts : (g h : ℕ) → g % 16 ≡ h % 16 → g / 16 ≡ h / 16 → g ≡ h
 same-parts g h slot serial = omega arith
 
 -- a handle that a table names after a call was given out by it, or named before
@@ -117,7 +117,7 @@ issued-serial {t} h (adds s whole room used serial) here = handle-serial (lastSe
 not-next : {k last : ℕ} → k ≤ last → k ≡ last + 1 → ⊥
 not-next h l = omega arith
 
-le-then : {a b c : ℕ} → a ≤ b → b ≤ c → a ≤ c
+pub le-then : {a b c : ℕ} → a ≤ b → b ≤ c → a ≤ c
 le-then h l = omega arith
 
 module _ (h : ℕ) where

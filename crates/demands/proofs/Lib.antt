@@ -4,3 +4,4 @@ pub mod Answered
 pub mod Kept
 pub mod Moves
 pub mod Handles
+pub mod Draws
