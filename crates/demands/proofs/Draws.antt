@@ -50,7 +50,7 @@ alone h t u no-draw named same =
 one-fewer : {c i k : ℕ} → k ≡ c + 1 → c ≤ i → 1 + (i + 1 - k) ≡ i + 1 - c
 one-fewer e h = omega arith
 
-not-16 : {n : ℕ} → n ≤ 16 → (n ≡ 16 → ⊥) → n < 16
+pub not-16 : {n : ℕ} → n ≤ 16 → (n ≡ 16 → ⊥) → n < 16
 not-16 h l = omega (arith, l)
 
 refused-drew : (h : ℕ) (c : Call) (t : Table) (n : ℕ) → drewBy h c (record { number = suc n; table = t; blocks = 0; value = 0 }) ≡ 0

@@ -5,3 +5,4 @@ pub mod Kept
 pub mod Moves
 pub mod Handles
 pub mod Draws
+pub mod Standard
