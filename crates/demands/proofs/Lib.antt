@@ -6,3 +6,4 @@ pub mod Moves
 pub mod Handles
 pub mod Draws
 pub mod Standard
+pub mod Alike

@@ -55,7 +55,7 @@ module _ (t : Table) (h : ℕ) (whole : sound t ≡ true) where
       }
 
 module _ (t : Table) (h : ℕ) where
-  used-by : sound t ≡ true → named (lookUp t h) ≡ true → Used (lastSerial t) (slotOf t h)
+  pub used-by : sound t ≡ true → named (lookUp t h) ≡ true → Used (lastSerial t) (slotOf t h)
   used-by whole found = sound-named t h whole (sym (named-is t h) ∙ found)
 
   -- a served reseed is the standard's
