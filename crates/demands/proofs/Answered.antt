@@ -1,12 +1,14 @@
 -- Demand 1: what a call is answered, and that a refusal changes nothing. Assumes nothing.
 use mathlib.Core.Path.{_≡_, refl, sym, ap, subst, _∙_}
+use mathlib.Core.Bool.{cond}
 use mathlib.Core.Logic.{_⊎_, inl, inr}
 use mathlib.Core.List.{List, [], _∷_}
 use Prim.Native.Nat.{ℕ, zero, suc}
 use native.Mathlib.Omega.{arith}
+use lib.Dec.{eqb, eqb·suc-zero}
 use Rattle.slots.specs.declared.layout.Table.{Table}
-use Rattle.table.specs.Reasons.{Reasons, served, _when_else_}
-use Rattle.table.specs.Answers.{Reply, stepped, installed}
+use Rattle.table.specs.Reasons.{Reasons, served, _when_else_, firstOf}
+use Rattle.table.specs.Answers.{Reply, decided, stepped, installed}
 use Rattle.table.specs.Opening.{openReasons}
 use Rattle.table.specs.Reseeding.{reseedReasons}
 use Rattle.table.specs.Drawing.{drawReasons}
@@ -18,7 +20,7 @@ use Rattle.table.proofs.FirstReason.{NoneHolds, First, this, later}
 use Rattle.table.proofs.Outcomes.{Decision, refusing, serving}
 use Rattle.demands.specs.Calls.{Call, opens, reseeds, draws, freshDraws, closes, inquires, reply, number, reasonsOf, order, lent}
 use Rattle.demands.specs.Handles.{Listed, here, there}
-use Rattle.demands.proofs.Outcome.{refusal, service, Outcome, outcome}
+use Rattle.demands.proofs.Outcome.{refusal, service, Outcome, outcome, reply-decided}
 
 abbrev pub numbersOf : Reasons → List ℕ
 numbersOf served = []
@@ -46,6 +48,15 @@ service-number t (draws handle strength out additional) = refl
 service-number t (freshDraws handle strength out entropy additional) = refl
 service-number t (closes handle) = refl
 service-number t (inquires handle) = refl
+
+-- the answer's number is the first of the reasons, 0 where there is none
+pub number-first : (t : Table) (c : Call) → number t c ≡ firstOf (reasonsOf t c)
+unfolding decided
+number-first t c = ap (λ (r : Reply). r .answer .number) (reply-decided t c) ∙ go (firstOf (reasonsOf t c))
+  where
+    go : (n : ℕ) → cond (eqb n 0) (service t c) (refusal t c n) .answer .number ≡ n
+    go zero = service-number t c
+    go (suc n) = ap (λ b. cond b (service t c) (refusal t c (suc n)) .answer .number) (eqb·suc-zero n)
 
 never-next : {n : ℕ} → suc n ≡ 0 → ⊥
 never-next h = omega arith

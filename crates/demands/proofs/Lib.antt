@@ -7,3 +7,4 @@ pub mod Handles
 pub mod Draws
 pub mod Standard
 pub mod Alike
+pub mod PLines
