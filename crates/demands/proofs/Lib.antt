@@ -8,3 +8,4 @@ pub mod Draws
 pub mod Standard
 pub mod Alike
 pub mod PLines
+pub mod Between

@@ -20,7 +20,7 @@ use Rattle.slots.specs.Sound.{sound}
 use Rattle.slots.specs.Handle.{handleOf, slotOf, names, lookUp, named, lowestFree}
 use Rattle.slots.specs.declared.slot.Slot.{Slot}
 use Rattle.slots.specs.declared.layout.Table.{Table}
-use Rattle.slots.proofs.Slots.{slotAt-same, slotAt-withLastSerial}
+use Rattle.slots.proofs.Slots.{slotAt-same, slotAt-withLastSerial, lastSerial-withLastSerial}
 use Rattle.slots.proofs.Soundness.{Used, sound-has}
 use Rattle.slots.proofs.Handles.{named-is, sound-named, slot-below, lowest-most, handle-slot}
 use Rattle.table.specs.Reasons.{rounded}
@@ -125,6 +125,7 @@ pub record Begins (t : Table) (a : Answer) (new : Slot) (st : State) (blocks : �
   pub handle : a .value ≡ handleOf (lastSerial t + 1) (lowestFree t 0 16)
   pub slot : slotOf (a .table) (a .value) ≡ new
   pub state : stateIn (slotOf (a .table) (a .value)) ≡ st
+  pub next-serial : lastSerial (a .table) ≡ lastSerial t + 1
   pub counted : a .blocks ≡ blocks
   pub all-left : left (a .value) (a .table) ≡ new .interval
 
@@ -152,9 +153,25 @@ module _ (t : Table) (mechanism strength interval : ℕ) (fresh : Bool) (entropy
         handle = ap (λ (r : Reply). r .answer .value) is;
         slot = slot-is;
         state = ap stateIn slot-is ∙ stateOf-standing (mechanismOf mechanism) (m .value) (sized-opening sha256 (lit< tt) (mechanismOf mechanism) entropy nonce personalization);
+        next-serial = ap (λ (r : Reply). lastSerial (r .answer .table)) is ∙ lastSerial-withLastSerial (withSlot t i new) (lastSerial t + 1);
         counted = ap (λ (r : Reply). r .answer .blocks) is;
         all-left = ap (λ (s : Slot). s .interval + 1 - s .counter) slot-is ∙ left-new interval (mechanismOf mechanism) entropy nonce personalization;
       }
+
+-- close and inquire count no blocks
+pub close-blocks : (t : Table) (h : ℕ) → answer t (closes h) .blocks ≡ 0
+close-blocks t h = go (outcome t (closes h))
+  where
+    go : {r : Reply} → Outcome t (closes h) r → r .answer .blocks ≡ 0
+    go (refusing n f) = refl
+    go (serving none) = refl
+
+pub inquire-blocks : (t : Table) (h : ℕ) → answer t (inquires h) .blocks ≡ 0
+inquire-blocks t h = go (outcome t (inquires h))
+  where
+    go : {r : Reply} → Outcome t (inquires h) r → r .answer .blocks ≡ 0
+    go (refusing n f) = refl
+    go (serving none) = refl
 
 -- no call reports more than 8,288 blocks
 pub blocks-most : (t : Table) (c : Call) → answer t c .blocks ≤ 8288
