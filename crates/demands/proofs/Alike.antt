@@ -1,16 +1,14 @@
 -- Demand 3: sequences alike in kinds, handles, settings and lengths are told the same numbers, values and block counts, whatever the
 -- bytes. Assumes of two tables that they are sound and alike; the fresh one is.
 use mathlib.Core.Path.{_≡_, refl, sym, ap, ap₂, subst, _∙_}
-use mathlib.Core.Bool.{Bool, true, false, not, _&&_, cond}
-use mathlib.Core.List.{List, [], _∷_, _++_}
-use Prim.Native.Nat.{ℕ, zero, suc, _+_, _-_, _/_, _%_, _≤_, _<_}
+use mathlib.Core.Bool.{Bool, true, not, _&&_, cond}
+use mathlib.Core.List.{List, _∷_, _++_}
+use Prim.Native.Nat.{ℕ, zero, suc, _+_, _-_, _/_, _%_, _<_}
 use native.Mathlib.Decide.{ℕ-discrete}
-use native.Mathlib.Omega.{arith}
 use lib.Dec.{eqb, lit<, eqb·suc-zero}
 use lib.ListN.{length, length-append}
 use Rattle.standard.specs.State.{State}
 use Rattle.standard.specs.Sha256.{sha256}
-use Rattle.standard.specs.Functions.{Mechanism, opening, reseeding, draw, freshDraw}
 use Rattle.standard.proofs.Lengths.{counter-opening, counter-reseeding, counter-draw, counter-freshDraw}
 use Rattle.standard.proofs.Counts.{openCount, reseedCount, drawCount, freshDrawCount, opening-blocks, reseeding-blocks, draw-blocks}
 use Rattle.standard.proofs.Counts.{freshDraw-blocks}
@@ -20,7 +18,7 @@ use Rattle.slots.specs.Sound.{sound}
 use Rattle.slots.specs.Handle.{handleOf, slotOf, names, lookUp, named, lowestFree}
 use Rattle.slots.specs.declared.slot.Slot.{Slot}
 use Rattle.slots.specs.declared.layout.Table.{Table}
-use Rattle.slots.proofs.Slots.{slotAt-same, slotAt-other, lastSerial-withSlot, slotAt-withLastSerial, lastSerial-withLastSerial}
+use Rattle.slots.proofs.Slots.{slotAt-same, slotAt-other, lastSerial-withSlot}
 use Rattle.slots.proofs.Soundness.{sound-fresh, sound-has}
 use Rattle.slots.proofs.Handles.{named-is, slot-below, lowest-most}
 use Rattle.table.specs.Reasons.{Reasons, firstOf, rounded}
@@ -30,7 +28,7 @@ use Rattle.table.specs.declared.answers.Answer.{Answer}
 use Rattle.table.proofs.FirstReason.{numbered, NoneHolds, none-holds}
 use Rattle.table.proofs.Standing.{sized-in}
 use Rattle.table.proofs.Allowed.{may-open, may-reseed, may-draw, may-draw-fresh}
-use Rattle.demands.specs.Calls.{Call, opens, reseeds, draws, freshDraws, closes, inquires, reply, answer, after, reasonsOf}
+use Rattle.demands.specs.Calls.{Call, reply, answer, reasonsOf}
 use Rattle.demands.specs.Alike.{Alike, openings, reseedings, drawings, fresh-drawings, closings, inquiries, AllAlike, none, more}
 use Rattle.demands.specs.Alike.{SameNumbers, AlikeTables, Told, toldOf, told}
 use Rattle.demands.proofs.Outcome.{refusal, service, reply-decided, all-numbered}
@@ -108,8 +106,8 @@ module _ {t u : Table} (tables : AlikeTables t u) (t-sound : sound t ≡ true) (
       go j (yes at) =
           let first : slotAt (withSlot t i s) j ≡ s = ap (slotAt (withSlot t i s)) at ∙ slotAt-same t i s (sound-has t t-sound i room) in
           let second : slotAt (withSlot u k v) j ≡ v =
-              ap (slotAt (withSlot u k v)) (at ∙ here)
-              ∙ slotAt-same u k v (sound-has u u-sound k (subst (λ x. x < 16) here room)) in
+          ap (slotAt (withSlot u k v)) (at ∙ here)
+          ∙ slotAt-same u k v (sound-has u u-sound k (subst (λ x. x < 16) here room)) in
           subst (λ x. SameNumbers x (slotAt (withSlot u k v) j)) (sym first) (subst (SameNumbers s) (sym second) same)
       go j (no other) =
           subst (λ x. SameNumbers x (slotAt (withSlot u k v) j)) (sym (slotAt-other t i s j other))
@@ -142,7 +140,7 @@ module _ {t u : Table} (tables : AlikeTables t u) (t-sound : sound t ≡ true) (
 
   step-alike : (h : ℕ) (a b : State) (j k : ℕ) → a .counter ≡ b .counter → j ≡ k
       → SameOutcome (stepped t (h % 16) (record { generator = standing a; blocks = j }))
-        (stepped u (h % 16) (record { generator = standing b; blocks = k }))
+      (stepped u (h % 16) (record { generator = standing b; blocks = k }))
   unfolding stepped
   step-alike h a b j k counters blocks =
       record {
@@ -216,7 +214,7 @@ module _ {t u : Table} (tables : AlikeTables t u) (t-sound : sound t ≡ true) (
   call-alike {c} {d} alike =
       let same = reasons-alike tables t-sound u-sound alike in
       let other : reply u d ≡ decided (reasonsOf t c) (refusal u d) (service u d) =
-          reply-decided u d ∙ ap (λ x. decided x (refusal u d) (service u d)) (sym same) in
+      reply-decided u d ∙ ap (λ x. decided x (refusal u d) (service u d)) (sym same) in
       subst (λ (r : Reply). SameOutcome (r .answer) (answer u d)) (sym (reply-decided t c))
       (subst (λ (r : Reply). SameOutcome (decided (reasonsOf t c) (refusal t c) (service t c) .answer) (r .answer)) (sym other)
       (go same (pair (reasonsOf t c) (refusal t c) (refusal u d) (service t c) (service u d) (all-numbered t c))))

@@ -15,10 +15,9 @@ use Rattle.table.specs.Drawing.{drawReasons}
 use Rattle.table.specs.FreshDrawing.{freshDrawReasons}
 use Rattle.table.specs.Closing.{closeReasons}
 use Rattle.table.specs.Inquiring.{inquireReasons}
-use Rattle.drbg.specs.Generator.{filled}
 use Rattle.table.proofs.FirstReason.{NoneHolds, First, this, later}
-use Rattle.table.proofs.Outcomes.{Decision, refusing, serving}
-use Rattle.demands.specs.Calls.{Call, opens, reseeds, draws, freshDraws, closes, inquires, reply, number, reasonsOf, order, lent}
+use Rattle.table.proofs.Outcomes.{refusing, serving}
+use Rattle.demands.specs.Calls.{Call, opens, reseeds, draws, freshDraws, closes, inquires, reply, number, reasonsOf, order}
 use Rattle.demands.specs.Handles.{Listed, here, there}
 use Rattle.demands.proofs.Outcome.{refusal, service, Outcome, outcome, reply-decided}
 

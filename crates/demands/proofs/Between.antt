@@ -1,6 +1,6 @@
 -- Demand 2, between two reseeds: after a served opening, reseed or fresh draw, and until the next served reseed, no more draws are served
 -- under the handle than its interval; a fresh draw's own is one of them. Assumes nothing.
-use mathlib.Core.Path.{_≡_, refl, sym, ap, subst, _∙_}
+use mathlib.Core.Path.{_≡_, sym, ap, subst, _∙_}
 use mathlib.Core.Bool.{Bool, true, not}
 use mathlib.Core.Logic.{_⊎_, inl, inr}
 use mathlib.Core.List.{List}
@@ -8,17 +8,15 @@ use Prim.Native.Nat.{ℕ, _+_, _-_, _/_, _≤_}
 use native.Mathlib.Omega.{arith}
 use lib.Dec.{eqb}
 use Rattle.standard.specs.State.{State}
-use Rattle.drbg.specs.Generator.{standing}
 use Rattle.slots.specs.Layout.{lastSerial, freshTable}
-use Rattle.slots.specs.Sound.{sound}
-use Rattle.slots.specs.Handle.{handleOf, inUse, slotOf, names, lookUp, named, lowestFree}
+use Rattle.slots.specs.Handle.{inUse, slotOf, names, lowestFree}
 use Rattle.slots.specs.declared.slot.Slot.{Slot}
 use Rattle.slots.specs.declared.layout.Table.{Table}
 use Rattle.slots.proofs.Handles.{named-is, names-used, names-serial, names-by, sound-named, lowest-most, handle-serial}
 use Rattle.table.specs.declared.answers.Answer.{Answer}
 use Rattle.table.proofs.Allowed.{may-open, may-reseed, may-draw-fresh}
 use Rattle.demands.specs.Calls.{Call, opens, reseeds, freshDraws, answer, number, after, afterAll}
-use Rattle.demands.specs.Draws.{left, drawsServed, NoReseed}
+use Rattle.demands.specs.Draws.{drawsServed, NoReseed}
 use Rattle.demands.proofs.Answered.{served-none}
 use Rattle.demands.proofs.Moves.{sound-after, sound-reached}
 use Rattle.demands.proofs.Draws.{draws-most, at-most-interval, not-16}

@@ -4,7 +4,7 @@ use mathlib.Core.Path.{_≡_, refl, sym, ap, ap₂, subst, _∙_}
 use mathlib.Core.Bool.{Bool, true, false, false≢true, _&&_, cond}
 use mathlib.Core.Logic.{_≢_}
 use mathlib.Core.List.{List, [], _∷_}
-use Prim.Native.Nat.{ℕ, zero, suc, _+_, _-_, _/_, _%_, _≤_, _<_}
+use Prim.Native.Nat.{ℕ, suc, _+_, _-_, _/_, _%_, _≤_, _<_}
 use native.Mathlib.Nat.{zero-add}
 use native.Mathlib.Decide.{ℕ-discrete}
 use native.Mathlib.Omega.{arith}
@@ -12,28 +12,25 @@ use borrow.Author.Tests.{eq-eqb, ne-eqb}
 use lib.Dec.{eqb, eqb·suc-zero}
 use lib.ListN.{length}
 use Rattle.standard.specs.Sha256.{sha256}
-use Rattle.standard.specs.Functions.{draw, reseeding, freshDraw}
-use Rattle.standard.proofs.Lengths.{counter-opening, counter-reseeding, counter-draw, counter-freshDraw}
-use Rattle.drbg.specs.Generator.{mechanismOf, standing, served, filled}
+use Rattle.standard.proofs.Lengths.{counter-draw}
+use Rattle.drbg.specs.Generator.{standing, served, filled}
 use Rattle.slots.specs.Layout.{freeSlot, slotAt, withSlot, lastSerial, withLastSerial}
 use Rattle.slots.specs.Sound.{sound}
 use Rattle.slots.specs.Handle.{inUse, slotOf, names, lowestFree}
 use Rattle.slots.specs.declared.slot.Slot.{Slot}
 use Rattle.slots.specs.declared.layout.Table.{Table}
 use Rattle.slots.proofs.Slots.{slotAt-same, slotAt-other, slotAt-withLastSerial}
-use Rattle.slots.proofs.Soundness.{Used, sound-has}
+use Rattle.slots.proofs.Soundness.{sound-has}
 use Rattle.slots.proofs.Handles.{named-is, names-used, names-serial, names-by, sound-named, slot-below, lowest-free, lowest-most}
-use Rattle.table.specs.Answers.{Reply, stepped, installed, withGenerator, generatorOf}
+use Rattle.table.specs.Answers.{Reply, stepped, installed, generatorOf}
 use Rattle.table.specs.Served.{mechanismIn, stateIn}
-use Rattle.table.specs.declared.answers.Answer.{Answer}
-use Rattle.table.proofs.Outcomes.{Decision, refusing, serving}
+use Rattle.table.proofs.Outcomes.{refusing, serving}
 use Rattle.table.proofs.Allowed.{may-open, may-reseed, may-draw, may-draw-fresh, may-close}
 use Rattle.demands.specs.Calls.{Call, opens, reseeds, draws, freshDraws, closes, inquires, answer, number, after, afterAll}
 use Rattle.demands.specs.Handles as Handles
 use Rattle.demands.specs.Draws.{left, drewBy, drawsServed, reseededBy, NoReseed, none, more}
 use Rattle.demands.proofs.Outcome.{Outcome, outcome}
 use Rattle.demands.proofs.Answered.{served-is}
-use Rattle.demands.proofs.Kept.{closing-frees}
 use Rattle.demands.proofs.Moves.{moved, counter-held, sound-after}
 use Rattle.demands.proofs.Handles.{unnamed-2, names-same, same-parts, last-moved, gone-after, gone, le-then}
 

@@ -4,18 +4,18 @@ use mathlib.Core.Path.{_≡_, refl, sym, ap, ap₂, subst, _∙_}
 use mathlib.Core.Bool.{Bool, true, false, false≢true, not, cond}
 use mathlib.Core.Logic.{_⊎_, inl, inr, ⊎-elim}
 use mathlib.Core.List.{List, [], _∷_, _++_}
-use Prim.Native.Nat.{ℕ, zero, suc, _+_, _/_, _%_, _≤_, _<_}
+use Prim.Native.Nat.{ℕ, _+_, _/_, _%_, _≤_, _<_}
 use native.Mathlib.Nat.{le-refl}
 use native.Mathlib.Decide.{ℕ-discrete}
 use native.Mathlib.Omega.{arith}
-use Rattle.slots.specs.Layout.{freeSlot, slotAt, withSlot, lastSerial, withLastSerial, freshTable}
+use Rattle.slots.specs.Layout.{freeSlot, slotAt, withSlot, lastSerial, freshTable}
 use Rattle.slots.specs.Sound.{sound}
-use Rattle.slots.specs.Handle.{handleOf, inUse, slotOf, names, lookUp, named, lowestFree}
+use Rattle.slots.specs.Handle.{handleOf, inUse, slotOf, names, named, lowestFree}
 use Rattle.slots.specs.declared.slot.Slot.{Slot}
 use Rattle.slots.specs.declared.layout.Table.{Table}
 use Rattle.slots.proofs.Slots.{slotAt-same, slotAt-other, lastSerial-withSlot, slotAt-withLastSerial, lastSerial-withLastSerial}
-use Rattle.slots.proofs.Soundness.{Used, sound-fresh, sound-has}
-use Rattle.slots.proofs.Handles.{named-is, names-used, names-serial, names-by, names-fresh, sound-named, slot-below, handle-slot, handle-serial}
+use Rattle.slots.proofs.Soundness.{sound-has}
+use Rattle.slots.proofs.Handles.{named-is, names-used, names-serial, names-fresh, sound-named, slot-below, handle-serial}
 use Rattle.slots.proofs.Handles.{handle-parts}
 use Rattle.table.specs.Reasons.{Reasons, _when_else_, firstOf}
 use Rattle.table.specs.Answers.{Reply}
@@ -78,7 +78,7 @@ named-moved {t} {u} h (adds s whole room used serial) is = go (ℕ-discrete (h %
     go : Dec (h % 16 ≡ i) → Listed h (handleOf (lastSerial t + 1) i ∷ []) ⊎ (names t h ≡ true)
     go (yes at) =
         let new : slotOf u h ≡ s =
-            slotAt-withLastSerial _ _ (h % 16) ∙ ap (slotAt (withSlot t i s)) at ∙ slotAt-same t i s (sound-has t whole i room) in
+        slotAt-withLastSerial _ _ (h % 16) ∙ ap (slotAt (withSlot t i s)) at ∙ slotAt-same t i s (sound-has t whole i room) in
         let serial-is : h / 16 ≡ lastSerial t + 1 = sym (names-serial u h is) ∙ ap (λ (s : Slot). s .serial) new ∙ serial in
         inl (subst (λ k. Listed h (k ∷ [])) (ap₂ handleOf serial-is at ∙ refl) (subst (λ k. Listed h (k ∷ [])) (sym (handle-parts h)) here))
     go (no other) = inr (sym (names-same t u h (slotAt-withLastSerial _ _ (h % 16) ∙ slotAt-other t i s (h % 16) other)) ∙ is)
@@ -87,10 +87,10 @@ named-moved {t} {u} h (steps handle s whole named used serial) is = go (ℕ-disc
     go : Dec (h % 16 ≡ handle % 16) → Listed h [] ⊎ (names t h ≡ true)
     go (yes at) =
         let new : slotOf u h ≡ s =
-            ap (slotAt (withSlot t (handle % 16) s)) at
-            ∙ slotAt-same t (handle % 16) s (sound-has t whole (handle % 16) (slot-below t handle)) in
+        ap (slotAt (withSlot t (handle % 16) s)) at
+        ∙ slotAt-same t (handle % 16) s (sound-has t whole (handle % 16) (slot-below t handle)) in
         let serial-is : h / 16 ≡ handle / 16 =
-            sym (names-serial u h is) ∙ ap (λ (s : Slot). s .serial) new ∙ serial ∙ names-serial t handle named in
+        sym (names-serial u h is) ∙ ap (λ (s : Slot). s .serial) new ∙ serial ∙ names-serial t handle named in
         inr (subst (λ k. names t k ≡ true) (sym (same-parts h handle at serial-is)) named)
     go (no other) = inr (sym (names-same t u h (slotAt-other t (handle % 16) s (h % 16) other)) ∙ is)
 named-moved {t} {u} h (ends handle whole named) is = go (ℕ-discrete (h % 16) (handle % 16))
@@ -98,8 +98,8 @@ named-moved {t} {u} h (ends handle whole named) is = go (ℕ-discrete (h % 16) (
     go : Dec (h % 16 ≡ handle % 16) → Listed h [] ⊎ (names t h ≡ true)
     go (yes at) =
         let new : slotOf u h ≡ freeSlot =
-            ap (slotAt (withSlot t (handle % 16) freeSlot)) at
-            ∙ slotAt-same t (handle % 16) freeSlot (sound-has t whole (handle % 16) (slot-below t handle)) in
+        ap (slotAt (withSlot t (handle % 16) freeSlot)) at
+        ∙ slotAt-same t (handle % 16) freeSlot (sound-has t whole (handle % 16) (slot-below t handle)) in
         absurd (false≢true (sym (ap inUse new) ∙ names-used u h is))
     go (no other) = inr (sym (names-same t u h (slotAt-other t (handle % 16) freeSlot (h % 16) other)) ∙ is)
 

@@ -1,19 +1,18 @@
 -- A call changes no slot but its own generator's, only an opening changes the last serial, inquire changes nothing, and closing leaves
 -- every field zero. Assumes nothing.
-use mathlib.Core.Path.{_≡_, refl, sym, ap, _∙_}
+use mathlib.Core.Path.{_≡_, refl, ap, _∙_}
 use mathlib.Core.Logic.{_≢_}
-use Prim.Native.Nat.{ℕ, suc, _+_, _%_}
-use Rattle.slots.specs.Layout.{freeSlot, slotAt, withSlot, lastSerial, withLastSerial}
-use Rattle.slots.specs.Sound.{sound}
-use Rattle.slots.specs.Handle.{slotOf, names}
+use Prim.Native.Nat.{ℕ, _+_, _%_}
+use Rattle.slots.specs.Layout.{freeSlot, slotAt, lastSerial}
+use Rattle.slots.specs.Handle.{slotOf}
 use Rattle.slots.specs.declared.layout.Table.{Table}
-use Rattle.slots.proofs.Slots.{slotAt-same, slotAt-other, lastSerial-withSlot, slotAt-withLastSerial, lastSerial-withLastSerial}
+use Rattle.slots.proofs.Slots.{slotAt-same, slotAt-other, lastSerial-withSlot, slotAt-withLastSerial}
 use Rattle.slots.proofs.Soundness.{sound-has}
 use Rattle.slots.proofs.Handles.{slot-below}
 use Rattle.table.specs.Answers.{Reply, stepped, installed}
-use Rattle.table.proofs.Outcomes.{Decision, refusing, serving}
+use Rattle.table.proofs.Outcomes.{refusing, serving}
 use Rattle.table.proofs.Allowed.{may-close}
-use Rattle.demands.specs.Calls.{Call, opens, reseeds, draws, freshDraws, closes, inquires, reply, number, after, own}
+use Rattle.demands.specs.Calls.{Call, opens, reseeds, draws, freshDraws, closes, inquires, number, after, own}
 use Rattle.demands.proofs.Outcome.{Outcome, outcome}
 use Rattle.demands.proofs.Answered.{served-is, served-none}
 

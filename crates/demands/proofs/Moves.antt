@@ -1,33 +1,32 @@
 -- What a call can do to a table: nothing, a new generator in a free slot with the next serial, a named generator's step, or a named
 -- generator's end. So soundness is kept by every call, and every table reached from the fresh one is sound. Assumes nothing.
 use mathlib.Core.Path.{_≡_, refl, sym, ap, subst, _∙_}
-use mathlib.Core.Bool.{Bool, true, false, cond}
+use mathlib.Core.Bool.{true, cond}
 use mathlib.Core.List.{List, [], _∷_}
-use Prim.Native.Nat.{ℕ, zero, suc, _+_, _%_, _^_, _≤_, _<_}
+use Prim.Native.Nat.{ℕ, suc, _+_, _%_, _≤_, _<_}
 use native.Mathlib.Omega.{arith}
-use lib.Dec.{eqb, lit<, eqb·suc-zero}
+use lib.Dec.{lit<, eqb·suc-zero}
 use lib.ListN.{length}
 use Rattle.standard.specs.State.{State}
 use Rattle.standard.specs.Sha256.{sha256}
-use Rattle.standard.specs.Functions.{Mechanism, HMAC-DRBG, Hash-DRBG, opening, reseeding, draw, freshDraw}
+use Rattle.standard.specs.Functions.{Mechanism, HMAC-DRBG, Hash-DRBG}
 use Rattle.standard.proofs.Lengths.{Sized, stateBytes, sized-opening, sized-reseeding, sized-draw, sized-freshDraw}
 use Rattle.standard.proofs.Lengths.{counter-opening, counter-reseeding, counter-draw, counter-freshDraw}
 use Rattle.drbg.specs.Generator.{mechanismOf, stateOf, standing, served, filled}
 use Rattle.drbg.specs.declared.generator.Generator.{Generator}
-use Rattle.slots.specs.Layout.{freeSlot, slotAt, withSlot, lastSerial, withLastSerial, freshTable}
+use Rattle.slots.specs.Layout.{freeSlot, withSlot, lastSerial, withLastSerial, freshTable}
 use Rattle.slots.specs.Sound.{sound}
 use Rattle.slots.specs.Handle.{handleOf, slotOf, names, lookUp, named, lowestFree}
 use Rattle.slots.specs.declared.slot.Slot.{Slot}
 use Rattle.slots.specs.declared.layout.Table.{Table}
 use Rattle.slots.proofs.Soundness.{Used, used-sound, free-sound, sound-fresh, sound-withSlot, sound-opened}
 use Rattle.slots.proofs.Handles.{named-is, sound-named, lowest-most}
-use Rattle.table.specs.Reasons.{Reasons, rounded}
-use Rattle.table.specs.Answers.{Reply, stepped, installed, withGenerator, newSlot, generatorOf}
+use Rattle.table.specs.Answers.{Reply, stepped, installed, withGenerator, generatorOf}
 use Rattle.table.specs.Served.{mechanismIn, stateIn}
-use Rattle.table.proofs.Outcomes.{Decision, refusing, serving}
+use Rattle.table.proofs.Outcomes.{refusing, serving}
 use Rattle.table.proofs.Standing.{used-standing, used-new, sized-in}
-use Rattle.table.proofs.Allowed.{may-open, may-reseed, may-draw, may-draw-fresh, may-close, may-inquire}
-use Rattle.demands.specs.Calls.{Call, opens, reseeds, draws, freshDraws, closes, inquires, reply, answer, after, afterAll}
+use Rattle.table.proofs.Allowed.{may-open, may-reseed, may-draw, may-draw-fresh, may-close}
+use Rattle.demands.specs.Calls.{Call, opens, reseeds, draws, freshDraws, closes, inquires, answer, after, afterAll}
 use Rattle.demands.specs.Handles.{issuedBy}
 use Rattle.demands.proofs.Outcome.{Outcome, outcome}
 
@@ -36,7 +35,7 @@ pub data Moves (t : Table) : List ℕ → Table → Type 0 where
   stays : Moves t [] t
   adds : (s : Slot) → sound t ≡ true → lowestFree t 0 16 < 16 → Used (lastSerial t + 1) s → s .serial ≡ lastSerial t + 1
       → Moves t (handleOf (lastSerial t + 1) (lowestFree t 0 16) ∷ [])
-        (withLastSerial (withSlot t (lowestFree t 0 16) s) (lastSerial t + 1))
+      (withLastSerial (withSlot t (lowestFree t 0 16) s) (lastSerial t + 1))
   steps : (handle : ℕ) (s : Slot) → sound t ≡ true → names t handle ≡ true → Used (lastSerial t) s
       → s .serial ≡ slotOf t handle .serial → Moves t [] (withSlot t (handle % 16) s)
   ends : (handle : ℕ) → sound t ≡ true → names t handle ≡ true → Moves t [] (withSlot t (handle % 16) freeSlot)

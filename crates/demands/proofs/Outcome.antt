@@ -1,8 +1,8 @@
 -- The one view of how a call comes out: refused by its first reason, or served. Assumes nothing.
 use mathlib.Core.Path.{_≡_, refl, sym, subst}
 use mathlib.Core.Bool.{Bool, true, false, cond}
-use mathlib.Core.List.{List, []}
-use Prim.Native.Nat.{ℕ, suc, _+_, _-_, _%_}
+use mathlib.Core.List.{[]}
+use Prim.Native.Nat.{ℕ, _+_, _-_, _%_}
 use lib.Dec.{eqb}
 use lib.ListN.{length}
 use Rattle.slots.specs.Layout.{freeSlot, withSlot, lastSerial}
@@ -18,7 +18,7 @@ use Rattle.table.specs.FreshDrawing.{freshDrawReasons, freshDrawOf}
 use Rattle.table.specs.Closing.{closeReasons, closeOf}
 use Rattle.table.specs.Inquiring.{inquireReasons, inquireOf}
 use Rattle.table.specs.declared.answers.Answer.{Answer}
-use Rattle.table.proofs.FirstReason.{numbered, NoneHolds, First}
+use Rattle.table.proofs.FirstReason.{numbered}
 use Rattle.table.proofs.Outcomes.{Decision, decision}
 use Rattle.demands.specs.Calls.{Call, opens, reseeds, draws, freshDraws, closes, inquires, reply, reasonsOf, lent}
 

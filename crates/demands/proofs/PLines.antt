@@ -7,7 +7,7 @@ use mathlib.Core.List.{List, [], _∷_, _++_, map}
 use Prim.Native.Nat.{ℕ, _+_}
 use native.Mathlib.Omega.{arith}
 use lib.Dec.{eqb, ltb}
-use lib.ListN.{length, getD, replicate}
+use lib.ListN.{length, getD}
 use Rattle.standard.specs.Strings.{numberOf, bytesOf, ceiling}
 use Rattle.standard.specs.HashDrbg as HashDrbg
 use Rattle.standard.proofs.PLines.{All, all-by}
@@ -45,8 +45,8 @@ abbrev pub Holds : Row → Type 0
 Holds (edge r) = Standard.Holds r
 Holds (strength asked gives given) =
     ((t : Table) (m i : ℕ) (f : Bool) (e n p : List ℕ) →
-      let c = opens m asked i f e n p in
-      number t c ≡ 0 → slotOf (after t c) (answer t c .value) .strength ≡ given)
+    let c = opens m asked i f e n p in
+    number t c ≡ 0 → slotOf (after t c) (answer t c .value) .strength ≡ given)
     × ((e n : List ℕ) → length e ≡ 32 → length n ≡ 8 → number freshTable (opens 1 asked 1 false e n []) ≡ 0)
 Holds (strength asked refused) =
     (t : Table) (m i : ℕ) (f : Bool) (e n p : List ℕ) → sound t ≡ true → (m ≡ 1) ⊎ (m ≡ 2) → number t (opens m asked i f e n p) ≡ 4
@@ -96,9 +96,10 @@ fresh-reasons asked e n es ns =
 pub holds : (r : Row) → computed r ≡ stated r → Holds r
 unfolding place openReasons
 holds (edge r) same = Standard.holds r same
-holds (strength asked gives given) same =
-    (λ t m i f e n p so. ap (λ (s : Slot). s .strength) (open-standard t m asked i f e n p so .slot) ∙ ap (place 0) same,
-    λ e n es ns. number-first freshTable (opens 1 asked 1 false e n []) ∙ ap firstOf (fresh-reasons asked e n es ns) ∙ ap (place 1) same)
+holds (strength asked gives given) same = (
+  λ t m i f e n p so. ap (λ (s : Slot). s .strength) (open-standard t m asked i f e n p so .slot) ∙ ap (place 0) same,
+  λ e n es ns. number-first freshTable (opens 1 asked 1 false e n []) ∙ ap firstOf (fresh-reasons asked e n es ns) ∙ ap (place 1) same,
+)
 holds (strength asked refused) same =
     λ t m i f e n p whole kind.
     number-first t (opens m asked i f e n p) ∙ third _ whole (known kind) (is-true (ltb 256 asked) (ap (place 0) same))
@@ -118,5 +119,5 @@ table =
 -- lines 1 to 8 hold
 pub table-holds : All Holds table
 unfolding table Standard.table ceiling HashDrbg.stepped numberOf bytesOf rounded firstOf openReasons closeOf decided closeReasons lookUp names
-  sound soundSlots soundSlot freeSound allZero slotAt lastSerial freshTable lowestFree
+    sound soundSlots soundSlot freeSound allZero slotAt lastSerial freshTable lowestFree
 table-holds = all-by computed stated holds table refl

@@ -1,9 +1,9 @@
 -- Demand 2, the standard: what a served opening, reseed, draw and fresh draw leave, give out and count is SP 800-90A's function at the
 -- state that stands under the handle. Assumes nothing.
-use mathlib.Core.Path.{_≡_, refl, sym, ap, ap₂, subst, _∙_}
+use mathlib.Core.Path.{_≡_, refl, sym, ap, _∙_}
 use mathlib.Core.Bool.{Bool, true}
 use mathlib.Core.List.{List}
-use Prim.Native.Nat.{ℕ, _+_, _-_, _%_, _≤_, _<_}
+use Prim.Native.Nat.{ℕ, _+_, _-_, _%_, _≤_}
 use native.Mathlib.Omega.{arith}
 use lib.Dec.{lit<, lit≤}
 use lib.ListN.{length}
@@ -13,23 +13,23 @@ use Rattle.standard.specs.Functions.{Mechanism, opening, reseeding, draw, fresh
 use Rattle.standard.proofs.Lengths.{Sized, stateBytes, sized-opening, sized-reseeding, sized-draw, sized-freshDraw}
 use Rattle.standard.proofs.Lengths.{counter-opening, counter-reseeding, counter-freshDraw}
 use Rattle.standard.proofs.Bound.{bounded}
-use Rattle.drbg.specs.Generator.{mechanismOf, stateOf, standing, served, filled}
+use Rattle.drbg.specs.Generator.{mechanismOf, standing, served, filled}
 use Rattle.drbg.proofs.Standing.{stateOf-standing}
-use Rattle.slots.specs.Layout.{slotAt, withSlot, lastSerial, withLastSerial}
+use Rattle.slots.specs.Layout.{slotAt, withSlot, lastSerial}
 use Rattle.slots.specs.Sound.{sound}
-use Rattle.slots.specs.Handle.{handleOf, slotOf, names, lookUp, named, lowestFree}
+use Rattle.slots.specs.Handle.{handleOf, slotOf, lookUp, named, lowestFree}
 use Rattle.slots.specs.declared.slot.Slot.{Slot}
 use Rattle.slots.specs.declared.layout.Table.{Table}
 use Rattle.slots.proofs.Slots.{slotAt-same, slotAt-withLastSerial, lastSerial-withLastSerial}
 use Rattle.slots.proofs.Soundness.{Used, sound-has}
 use Rattle.slots.proofs.Handles.{named-is, sound-named, slot-below, lowest-most, handle-slot}
 use Rattle.table.specs.Reasons.{rounded}
-use Rattle.table.specs.Answers.{Reply, stepped, installed, withGenerator, newSlot, generatorOf}
+use Rattle.table.specs.Answers.{Reply, stepped, installed, withGenerator, newSlot}
 use Rattle.table.specs.Served.{mechanismIn, stateIn}
 use Rattle.table.specs.declared.answers.Answer.{Answer}
-use Rattle.table.proofs.Outcomes.{Decision, refusing, serving}
+use Rattle.table.proofs.Outcomes.{refusing, serving}
 use Rattle.table.proofs.Standing.{sized-in}
-use Rattle.table.proofs.Allowed.{MayOpen, may-open, may-reseed, may-draw, may-draw-fresh}
+use Rattle.table.proofs.Allowed.{may-open, may-reseed, may-draw, may-draw-fresh}
 use Rattle.demands.specs.Calls.{Call, opens, reseeds, draws, freshDraws, closes, inquires, reply, answer, number, after}
 use Rattle.demands.specs.Draws.{left}
 use Rattle.demands.proofs.Outcome.{Outcome, outcome}
@@ -47,7 +47,7 @@ module _ (t : Table) (h : ℕ) (whole : sound t ≡ true) where
       → a .table ≡ withSlot t (h % 16) (withGenerator (slotOf t h) (standing st)) → a .blocks ≡ blocks → Follows t h a st blocks
   follows a st blocks sized table-is counted =
       let slot-is : slotOf (a .table) h ≡ withGenerator (slotOf t h) (standing st) =
-          ap (λ (u : Table). slotOf u h) table-is ∙ slotAt-same t (h % 16) _ (sound-has t whole (h % 16) (slot-below t h)) in
+      ap (λ (u : Table). slotOf u h) table-is ∙ slotAt-same t (h % 16) _ (sound-has t whole (h % 16) (slot-below t h)) in
       record {
         slot = slot-is;
         state = ap stateIn slot-is ∙ stateOf-standing (mechanismIn (slotOf t h)) st sized;
@@ -79,11 +79,13 @@ module _ (t : Table) (h : ℕ) where
   draw-standard strength out additional so =
       let c = draws h strength out additional in
       let is = served-is t c so in
-      let may = may-draw (served-none t c so) in
-      (follows t h (may .sound-so) (answer t c) _ _
-      (sized-draw sha256 (mechanismIn (slotOf t h)) (stateIn (slotOf t h)) (length out) additional
-      (sized-in (lastSerial t) (slotOf t h) (used-by (may .sound-so) (may .named-so))))
-      (ap (λ (r : Reply). r .answer .table) is) (ap (λ (r : Reply). r .answer .blocks) is), ap (λ (r : Reply). r .output) is)
+      let may = may-draw (served-none t c so) in (
+        follows t h (may .sound-so) (answer t c) _ _
+            (sized-draw sha256 (mechanismIn (slotOf t h)) (stateIn (slotOf t h)) (length out) additional
+            (sized-in (lastSerial t) (slotOf t h) (used-by (may .sound-so) (may .named-so))))
+            (ap (λ (r : Reply). r .answer .table) is) (ap (λ (r : Reply). r .answer .blocks) is),
+        ap (λ (r : Reply). r .output) is,
+      )
 
   -- and so is a served fresh draw
   pub fresh-draw-standard : (strength : ℕ) (out entropy additional : List ℕ) → number t (freshDraws h strength out entropy additional) ≡ 0 →
@@ -94,10 +96,12 @@ module _ (t : Table) (h : ℕ) where
   fresh-draw-standard strength out entropy additional so =
       let c = freshDraws h strength out entropy additional in
       let is = served-is t c so in
-      let may = may-draw-fresh (served-none t c so) in
-      (follows t h (may .sound-so) (answer t c) _ _
-      (sized-freshDraw sha256 (lit< tt) (mechanismIn (slotOf t h)) (stateIn (slotOf t h)) (length out) entropy additional)
-      (ap (λ (r : Reply). r .answer .table) is) (ap (λ (r : Reply). r .answer .blocks) is), ap (λ (r : Reply). r .output) is)
+      let may = may-draw-fresh (served-none t c so) in (
+        follows t h (may .sound-so) (answer t c) _ _
+            (sized-freshDraw sha256 (lit< tt) (mechanismIn (slotOf t h)) (stateIn (slotOf t h)) (length out) entropy additional)
+            (ap (λ (r : Reply). r .answer .table) is) (ap (λ (r : Reply). r .answer .blocks) is),
+        ap (λ (r : Reply). r .output) is,
+      )
 
   -- after a reseed all draws of the interval are left; after a fresh draw, which is one of them, one fewer
   pub reseed-left : (entropy additional : List ℕ) → number t (reseeds h entropy additional) ≡ 0
@@ -145,10 +149,10 @@ module _ (t : Table) (mechanism strength interval : ℕ) (fresh : Bool) (entropy
       let room = not-16 (lowest-most t 0 16) (may .slot-free) in
       let new = newSlot mechanism (rounded strength) interval fresh (lastSerial t + 1) (standing (m .value)) in
       let slot-is : slotOf (answer t c .table) (answer t c .value) ≡ new =
-          ap (λ (r : Reply). slotOf (r .answer .table) (r .answer .value)) is
-          ∙ slotAt-withLastSerial (withSlot t i new) (lastSerial t + 1) (handleOf (lastSerial t + 1) i % 16)
-          ∙ ap (slotAt (withSlot t i new)) (handle-slot (lastSerial t + 1) i room)
-          ∙ slotAt-same t i new (sound-has t (may .sound-so) i room) in
+      ap (λ (r : Reply). slotOf (r .answer .table) (r .answer .value)) is
+      ∙ slotAt-withLastSerial (withSlot t i new) (lastSerial t + 1) (handleOf (lastSerial t + 1) i % 16)
+      ∙ ap (slotAt (withSlot t i new)) (handle-slot (lastSerial t + 1) i room)
+      ∙ slotAt-same t i new (sound-has t (may .sound-so) i room) in
       record {
         handle = ap (λ (r : Reply). r .answer .value) is;
         slot = slot-is;

@@ -3,7 +3,7 @@ use Prim.Native.Nat.{ℕ, _%_}
 use mathlib.Core.Bool.{Bool}
 use mathlib.Core.List.{List, [], _∷_}
 use lib.ListN.{length}
-use Rattle.slots.specs.Layout.{freeSlot, withSlot, lastSerial}
+use Rattle.slots.specs.Layout.{lastSerial}
 use Rattle.slots.specs.Sound.{sound}
 use Rattle.slots.specs.Handle.{slotOf, lookUp, named, lowestFree}
 use Rattle.slots.specs.declared.layout.Table.{Table}
