@@ -26,7 +26,6 @@ use Rattle.table.specs.Answers.{Reply, decided, stepped, installed, withGenerat
 use Rattle.table.specs.Served.{mechanismIn, stateIn}
 use Rattle.table.specs.declared.answers.Answer.{Answer}
 use Rattle.table.proofs.FirstReason.{numbered, NoneHolds, none-holds}
-use Rattle.table.proofs.Standing.{sized-in}
 use Rattle.table.proofs.Allowed.{may-open, may-reseed, may-draw, may-draw-fresh}
 use Rattle.demands.specs.Calls.{Call, reply, answer, reasonsOf}
 use Rattle.demands.specs.Alike.{Alike, openings, reseedings, drawings, fresh-drawings, closings, inquiries, AllAlike, none, more}
@@ -34,7 +33,7 @@ use Rattle.demands.specs.Alike.{SameNumbers, AlikeTables, Told, toldOf, 
 use Rattle.demands.proofs.Outcome.{refusal, service, reply-decided, all-numbered}
 use Rattle.demands.proofs.Moves.{sound-after, counter-held}
 use Rattle.demands.proofs.Draws.{not-16}
-use Rattle.demands.proofs.Standard.{used-by}
+use Rattle.demands.proofs.Standard.{sized-by}
 
 -- two calls with the same reasons come out in the same way
 data Pair {A : Type 0} (reasons : Reasons) (f g : ℕ → A) (a b : A) : A → A → Type 0 where
@@ -145,7 +144,9 @@ module _ {t u : Table} (tables : AlikeTables t u) (t-sound : sound t ≡ true) (
   step-alike h a b j k counters blocks =
       record {
         told = told-is refl blocks refl;
-        tables = alike-with tables t-sound u-sound (h % 16) (h % 16) _ _ refl (slot-below t h) (same-step a b (tables .slots (h % 16)) counters);
+        tables =
+            alike-with tables t-sound u-sound (h % 16) (h % 16) _ _ refl (slot-below t h)
+            (same-step a b (tables .slots (h % 16)) counters);
       }
 
   served-alike : {c d : Call} → Alike c d → NoneHolds (reasonsOf t c) → NoneHolds (reasonsOf u d)
@@ -175,9 +176,9 @@ module _ {t u : Table} (tables : AlikeTables t u) (t-sound : sound t ≡ true) (
       let may′ = may-reseed ok′ in
       step-alike h _ _ _ _
       (counter-reseeding sha256 (mechanismIn s) (stateIn s) e a ∙ sym (counter-reseeding sha256 (mechanismIn v) (stateIn v) e′ a′))
-      (reseeding-blocks sha256 (lit< tt) (mechanismIn s) (stateIn s) e a (sized-in _ s (used-by t h (may .sound-so) (may .named-so)))
+      (reseeding-blocks sha256 (lit< tt) (mechanismIn s) (stateIn s) e a (sized-by t h (may .sound-so) (may .named-so))
       ∙ ap₂ (reseedCount sha256) (mechanisms h) (lengths e a e′ a′ es eq)
-      ∙ sym (reseeding-blocks sha256 (lit< tt) (mechanismIn v) (stateIn v) e′ a′ (sized-in _ v (used-by u h (may′ .sound-so) (may′ .named-so)))))
+      ∙ sym (reseeding-blocks sha256 (lit< tt) (mechanismIn v) (stateIn v) e′ a′ (sized-by u h (may′ .sound-so) (may′ .named-so))))
   served-alike (drawings {handle = h} {strength = k} {o} {o′} {a} {a′} os eq) ok ok′ =
       let s = slotOf t h in
       let v = slotOf u h in
@@ -188,9 +189,9 @@ module _ {t u : Table} (tables : AlikeTables t u) (t-sound : sound t ≡ true) (
       ∙ ap (λ n. n + 1)
       (counter-held (mechanismIn s) (generatorOf s) ∙ tables .slots (h % 16) .counter ∙ sym (counter-held (mechanismIn v) (generatorOf v)))
       ∙ sym (counter-draw sha256 (mechanismIn v) (stateIn v) (length o′) a′))
-      (draw-blocks sha256 (lit< tt) (mechanismIn s) (stateIn s) (length o) a (sized-in _ s (used-by t h (may .sound-so) (may .named-so)))
+      (draw-blocks sha256 (lit< tt) (mechanismIn s) (stateIn s) (length o) a (sized-by t h (may .sound-so) (may .named-so))
       ∙ ap (λ m. drawCount sha256 m (length o) (length a)) (mechanisms h) ∙ ap₂ (drawCount sha256 (mechanismIn v)) os eq
-      ∙ sym (draw-blocks sha256 (lit< tt) (mechanismIn v) (stateIn v) (length o′) a′ (sized-in _ v (used-by u h (may′ .sound-so) (may′ .named-so)))))
+      ∙ sym (draw-blocks sha256 (lit< tt) (mechanismIn v) (stateIn v) (length o′) a′ (sized-by u h (may′ .sound-so) (may′ .named-so))))
   served-alike (fresh-drawings {handle = h} {strength = k} {o} {o′} {e} {e′} {a} {a′} os es eq) ok ok′ =
       let s = slotOf t h in
       let v = slotOf u h in
@@ -199,10 +200,11 @@ module _ {t u : Table} (tables : AlikeTables t u) (t-sound : sound t ≡ true) (
       step-alike h _ _ _ _
       (counter-freshDraw sha256 (mechanismIn s) (stateIn s) (length o) e a
       ∙ sym (counter-freshDraw sha256 (mechanismIn v) (stateIn v) (length o′) e′ a′))
-      (freshDraw-blocks sha256 (lit< tt) (mechanismIn s) (stateIn s) (length o) e a (sized-in _ s (used-by t h (may .sound-so) (may .named-so)))
+      (freshDraw-blocks sha256 (lit< tt) (mechanismIn s) (stateIn s) (length o) e a (sized-by t h (may .sound-so) (may .named-so))
       ∙ ap (λ m. freshDrawCount sha256 m (length o) (length (e ++ a))) (mechanisms h)
       ∙ ap₂ (freshDrawCount sha256 (mechanismIn v)) os (lengths e a e′ a′ es eq)
-      ∙ sym (freshDraw-blocks sha256 (lit< tt) (mechanismIn v) (stateIn v) (length o′) e′ a′ (sized-in _ v (used-by u h (may′ .sound-so) (may′ .named-so)))))
+      ∙ sym (freshDraw-blocks sha256 (lit< tt) (mechanismIn v) (stateIn v) (length o′) e′ a′
+      (sized-by u h (may′ .sound-so) (may′ .named-so))))
   served-alike (closings {handle = h}) ok ok′ =
       record { told = refl; tables = alike-with tables t-sound u-sound (h % 16) (h % 16) freeSlot freeSlot refl (slot-below t h) same-free }
   served-alike (inquiries {handle = h}) ok ok′ =
@@ -225,7 +227,8 @@ module _ {t u : Table} (tables : AlikeTables t u) (t-sound : sound t ≡ true) (
       go same (serving-both ok) = served-alike alike ok (subst NoneHolds same ok)
 
 -- the lists of numbers, values and counts of two sequences alike are equal
-pub runs-alike : {t u : Table} {cs ds : List Call} → AlikeTables t u → sound t ≡ true → sound u ≡ true → AllAlike cs ds → told t cs ≡ told u ds
+pub runs-alike : {t u : Table} {cs ds : List Call} → AlikeTables t u → sound t ≡ true → sound u ≡ true → AllAlike cs ds
+    → told t cs ≡ told u ds
 runs-alike tables t-sound u-sound none = refl
 runs-alike {t} {u} tables t-sound u-sound (more {c} {d} alike rest) =
     let same = call-alike tables t-sound u-sound alike in

@@ -27,7 +27,8 @@ in-use (inl e) = ap (λ m. not (eqb m 0)) e
 in-use (inr e) = ap (λ m. not (eqb m 0)) e
 
 -- a step leaves its handle named
-step-named : {t : Table} {h : ℕ} {a : Answer} {st : State} {blocks : ℕ} → Follows t h a st blocks → names t h ≡ true → names (a .table) h ≡ true
+step-named : {t : Table} {h : ℕ} {a : Answer} {st : State} {blocks : ℕ} → Follows t h a st blocks → names t h ≡ true
+    → names (a .table) h ≡ true
 step-named {t} {h} {a} f is =
     names-by (a .table) h (ap inUse (f .slot) ∙ names-used t h is) (ap (λ (s : Slot). s .serial) (f .slot) ∙ names-serial t h is)
 
@@ -80,7 +81,8 @@ module _ (t : Table) (mechanism strength interval : ℕ) (fresh : Bool) (entropy
       let c = opens mechanism strength interval fresh entropy nonce personalization in
       let h = answer t c .value in
       let may = may-open (served-none t c so) in
-      subst (λ n. drawsServed h (after t c) ds ≤ n) (open-standard t mechanism strength interval fresh entropy nonce personalization so .all-left)
+      subst (λ n. drawsServed h (after t c) ds ≤ n)
+      (open-standard t mechanism strength interval fresh entropy nonce personalization so .all-left)
       (draws-most h (after t c) ds (sound-after t c (may .sound-so)) (opened-named so) quiet)
 
 -- anywhere in a sequence from the fresh table

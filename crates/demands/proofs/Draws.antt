@@ -73,7 +73,9 @@ module _ (h : ℕ) (t : Table) (whole : sound t ≡ true) (is : names t h ≡ tr
   free-elsewhere s room serial =
       slotAt-withLastSerial _ serial (h % 16)
       ∙ slotAt-other t (lowestFree t 0 16) s (h % 16)
-      (λ at. false≢true (sym (lowest-free t 0 16 (not-16 (lowest-most t 0 16) room)) ∙ ap (λ i. inUse (slotAt t i)) (sym at) ∙ names-used t h is))
+      (λ at.
+      false≢true
+      (sym (lowest-free t 0 16 (not-16 (lowest-most t 0 16) room)) ∙ ap (λ i. inUse (slotAt t i)) (sym at) ∙ names-used t h is))
 
   at-own : (s : Slot) → slotOf (withSlot t (h % 16) s) h ≡ s
   at-own s = slotAt-same t (h % 16) s (sound-has t whole (h % 16) (slot-below t h))
@@ -103,7 +105,8 @@ module _ (h : ℕ) (t : Table) (whole : sound t ≡ true) (is : names t h ≡ tr
   unfolding stepped installed served filled standing
   call-step c quiet = go c (outcome t c) quiet
     where
-      go : (c : Call) {r : Reply} → Outcome t c r → reseededBy h c (r .answer) ≡ false → Step h t (r .answer .table) (drewBy h c (r .answer))
+      go : (c : Call) {r : Reply} → Outcome t c r → reseededBy h c (r .answer) ≡ false
+          → Step h t (r .answer .table) (drewBy h c (r .answer))
       go c (refusing n f) q = alone h t t (refused-drew h c t n) is refl
       go (opens m s i f e n p) (serving ok) q = alone h t _ refl is (free-elsewhere _ (may-open ok .slot-free) (lastSerial t + 1))
       go (reseeds handle e a) (serving ok) q =
@@ -184,7 +187,8 @@ pub draws-exact : (h : ℕ) (t : Table) (cs : List Call) → sound t ≡ true �
     → names (afterAll t cs) h ≡ true → drawsServed h t cs + left h (afterAll t cs) ≡ left h t
 draws-exact h t [] whole is none there = zero-add (left h t)
 draws-exact h t (c ∷ cs) whole is (more quiet rest) there =
-    step-exact (drawsServed h (after t c) cs) (left h (afterAll t (c ∷ cs))) (call-step h t whole is c quiet) (λ named. draws-exact h (after t c) cs (sound-after t c whole) named rest there)
+    step-exact (drawsServed h (after t c) cs) (left h (afterAll t (c ∷ cs))) (call-step h t whole is c quiet)
+    (λ named. draws-exact h (after t c) cs (sound-after t c whole) named rest there)
     (λ unnamed. false≢true (sym (gone h (after t c) cs (le-then (serial-old h t whole is) (last-moved (moved t c))) unnamed) ∙ there))
 
 -- the draws left are never more than the interval

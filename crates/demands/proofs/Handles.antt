@@ -27,7 +27,8 @@ use Rattle.table.specs.Inquiring.{inquireReasons}
 use Rattle.table.proofs.Outcomes.{refused-by}
 use Rattle.table.proofs.Allowed.{may-close}
 use Rattle.demands.specs.Calls.{Call, closes, answer, number, after, afterAll, reasonsOf}
-use Rattle.demands.specs.Handles.{issuedBy, issued, Listed, here, there, Distinct, Rising, Under, reseed, draw, fresh-draw, close, inquire}
+use Rattle.demands.specs.Handles.{issuedBy, issued, Listed, here, there, Distinct, Rising}
+use Rattle.demands.specs.Handles.{Under, reseed, draw, fresh-draw, close, inquire}
 use Rattle.demands.specs.Handles as H
 use Rattle.demands.proofs.Outcome.{refusal, service, reply-decided}
 use Rattle.demands.proofs.Answered.{served-none}

@@ -99,7 +99,10 @@ moved t c = go c (outcome t c)
         let may = may-draw none in
         step-moves t handle _ (may .sound-so) (may .named-so)
         (λ u. sized-draw sha256 (mechanismIn s) (stateIn s) (length o) a (sized-in (lastSerial t) s u))
-        (λ u. at-next (counter-draw sha256 (mechanismIn s) (stateIn s) (length o) a ∙ ap (λ x. x + 1) (counter-held (mechanismIn s) (generatorOf s))) (may .not-due))
+        (λ u.
+        at-next
+        (counter-draw sha256 (mechanismIn s) (stateIn s) (length o) a ∙ ap (λ x. x + 1) (counter-held (mechanismIn s) (generatorOf s)))
+        (may .not-due))
     go (freshDraws handle k o e a) (serving none) =
         let s = slotOf t handle in
         let may = may-draw-fresh none in

@@ -118,6 +118,7 @@ table =
 
 -- lines 1 to 8 hold
 pub table-holds : All Holds table
-unfolding table Standard.table ceiling HashDrbg.stepped numberOf bytesOf rounded firstOf openReasons closeOf decided closeReasons lookUp names
+unfolding table Standard.table ceiling HashDrbg.stepped numberOf bytesOf rounded firstOf openReasons closeOf decided closeReasons
+    lookUp names
     sound soundSlots soundSlot freeSound allZero slotAt lastSerial freshTable lowestFree
 table-holds = all-by computed stated holds table refl

@@ -21,7 +21,7 @@ use Rattle.slots.specs.Handle.{handleOf, slotOf, lookUp, named, lowestFree}
 use Rattle.slots.specs.declared.slot.Slot.{Slot}
 use Rattle.slots.specs.declared.layout.Table.{Table}
 use Rattle.slots.proofs.Slots.{slotAt-same, slotAt-withLastSerial, lastSerial-withLastSerial}
-use Rattle.slots.proofs.Soundness.{Used, sound-has}
+use Rattle.slots.proofs.Soundness.{sound-has}
 use Rattle.slots.proofs.Handles.{named-is, sound-named, slot-below, lowest-most, handle-slot}
 use Rattle.table.specs.Reasons.{rounded}
 use Rattle.table.specs.Answers.{Reply, stepped, installed, withGenerator, newSlot}
@@ -55,8 +55,9 @@ module _ (t : Table) (h : ℕ) (whole : sound t ≡ true) where
       }
 
 module _ (t : Table) (h : ℕ) where
-  pub used-by : sound t ≡ true → named (lookUp t h) ≡ true → Used (lastSerial t) (slotOf t h)
-  used-by whole found = sound-named t h whole (sym (named-is t h) ∙ found)
+  -- the state under a handle that names a generator has its lengths
+  pub sized-by : sound t ≡ true → named (lookUp t h) ≡ true → Sized (stateBytes sha256 (mechanismIn (slotOf t h))) (stateIn (slotOf t h))
+  sized-by whole found = sized-in (lastSerial t) (slotOf t h) (sound-named t h whole (sym (named-is t h) ∙ found))
 
   -- a served reseed is the standard's
   pub reseed-standard : (entropy additional : List ℕ) → number t (reseeds h entropy additional) ≡ 0 →
@@ -82,7 +83,7 @@ module _ (t : Table) (h : ℕ) where
       let may = may-draw (served-none t c so) in (
         follows t h (may .sound-so) (answer t c) _ _
             (sized-draw sha256 (mechanismIn (slotOf t h)) (stateIn (slotOf t h)) (length out) additional
-            (sized-in (lastSerial t) (slotOf t h) (used-by (may .sound-so) (may .named-so))))
+            (sized-by (may .sound-so) (may .named-so)))
             (ap (λ (r : Reply). r .answer .table) is) (ap (λ (r : Reply). r .answer .blocks) is),
         ap (λ (r : Reply). r .output) is,
       )
@@ -137,8 +138,8 @@ module _ (t : Table) (mechanism strength interval : ℕ) (fresh : Bool) (entropy
   pub open-standard :
       let c = opens mechanism strength interval fresh entropy nonce personalization in
       let m = opening sha256 (mechanismOf mechanism) entropy nonce personalization in
-      number t c ≡ 0
-      → Begins t (answer t c) (newSlot mechanism (rounded strength) interval fresh (lastSerial t + 1) (standing (m .value))) (m .value) (m .blocks)
+      let new = newSlot mechanism (rounded strength) interval fresh (lastSerial t + 1) (standing (m .value)) in
+      number t c ≡ 0 → Begins t (answer t c) new (m .value) (m .blocks)
   unfolding installed served
   open-standard so =
       let c = opens mechanism strength interval fresh entropy nonce personalization in
@@ -156,10 +157,16 @@ module _ (t : Table) (mechanism strength interval : ℕ) (fresh : Bool) (entropy
       record {
         handle = ap (λ (r : Reply). r .answer .value) is;
         slot = slot-is;
-        state = ap stateIn slot-is ∙ stateOf-standing (mechanismOf mechanism) (m .value) (sized-opening sha256 (lit< tt) (mechanismOf mechanism) entropy nonce personalization);
-        next-serial = ap (λ (r : Reply). lastSerial (r .answer .table)) is ∙ lastSerial-withLastSerial (withSlot t i new) (lastSerial t + 1);
+        state =
+            ap stateIn slot-is
+            ∙ stateOf-standing (mechanismOf mechanism) (m .value)
+            (sized-opening sha256 (lit< tt) (mechanismOf mechanism) entropy nonce personalization);
+        next-serial =
+            ap (λ (r : Reply). lastSerial (r .answer .table)) is ∙ lastSerial-withLastSerial (withSlot t i new) (lastSerial t + 1);
         counted = ap (λ (r : Reply). r .answer .blocks) is;
-        all-left = ap (λ (s : Slot). s .interval + 1 - s .counter) slot-is ∙ left-new interval (mechanismOf mechanism) entropy nonce personalization;
+        all-left =
+            ap (λ (s : Slot). s .interval + 1 - s .counter) slot-is
+            ∙ left-new interval (mechanismOf mechanism) entropy nonce personalization;
       }
 
 -- close and inquire count no blocks
@@ -190,17 +197,17 @@ blocks-most t c = go c (outcome t c)
     go (reseeds h e a) (serving none) =
         let may = may-reseed none in
         let s = slotOf t h in
-        bounded (mechanismIn s) .reseeding (stateIn s) e a (sized-in (lastSerial t) s (used-by t h (may .sound-so) (may .named-so)))
+        bounded (mechanismIn s) .reseeding (stateIn s) e a (sized-by t h (may .sound-so) (may .named-so))
         (may .entropy-most) (may .additional-most)
     go (draws h k o a) (serving none) =
         let may = may-draw none in
         let s = slotOf t h in
-        bounded (mechanismIn s) .draw (stateIn s) (length o) a (sized-in (lastSerial t) s (used-by t h (may .sound-so) (may .named-so)))
+        bounded (mechanismIn s) .draw (stateIn s) (length o) a (sized-by t h (may .sound-so) (may .named-so))
         (may .request-most) (may .additional-most)
     go (freshDraws h k o e a) (serving none) =
         let may = may-draw-fresh none in
         let s = slotOf t h in
         bounded (mechanismIn s) .freshDraw (stateIn s) (length o) e a
-        (sized-in (lastSerial t) s (used-by t h (may .sound-so) (may .named-so))) (may .request-most) (may .entropy-most) (may .additional-most)
+        (sized-by t h (may .sound-so) (may .named-so)) (may .request-most) (may .entropy-most) (may .additional-most)
     go (closes h) (serving none) = lit≤ tt
     go (inquires h) (serving none) = lit≤ tt

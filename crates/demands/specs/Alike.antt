@@ -13,7 +13,8 @@ use Rattle.demands.specs.Calls.{Call, opens, reseeds, draws, freshDraws,
 pub data Alike : Call → Call → Type 0 where
   openings : {mechanism strength interval : ℕ} {fresh : Bool} {e e′ n n′ p p′ : List ℕ} → length e ≡ length e′ → length n ≡ length n′
       → length p ≡ length p′ → Alike (opens mechanism strength interval fresh e n p) (opens mechanism strength interval fresh e′ n′ p′)
-  reseedings : {handle : ℕ} {e e′ a a′ : List ℕ} → length e ≡ length e′ → length a ≡ length a′ → Alike (reseeds handle e a) (reseeds handle e′ a′)
+  reseedings : {handle : ℕ} {e e′ a a′ : List ℕ} → length e ≡ length e′ → length a ≡ length a′
+      → Alike (reseeds handle e a) (reseeds handle e′ a′)
   drawings : {handle strength : ℕ} {o o′ a a′ : List ℕ} → length o ≡ length o′ → length a ≡ length a′
       → Alike (draws handle strength o a) (draws handle strength o′ a′)
   fresh-drawings : {handle strength : ℕ} {o o′ e e′ a a′ : List ℕ} → length o ≡ length o′ → length e ≡ length e′ → length a ≡ length a′

@@ -56,7 +56,8 @@ afterAll t (c ∷ cs) = afterAll (after t c) cs
 -- the reasons of a call on this table, in document 01's order
 abbrev pub reasonsOf : Table → Call → Reasons
 reasonsOf t (opens mechanism strength interval fresh entropy nonce personalization) =
-    openReasons (sound t) mechanism strength interval (length entropy) (length nonce) (length personalization) (lowestFree t 0 16) (lastSerial t)
+    openReasons (sound t) mechanism strength interval (length entropy) (length nonce) (length personalization)
+    (lowestFree t 0 16) (lastSerial t)
 reasonsOf t (reseeds handle entropy additional) =
     reseedReasons (sound t) (named (lookUp t handle)) (slotOf t handle .strength) (length entropy) (length additional)
 reasonsOf t (draws handle strength out additional) =
