@@ -30,7 +30,8 @@ use Rattle.table.proofs.Allowed.{may-open, may-reseed, may-draw, may-draw-fresh
 use Rattle.demands.specs.Calls.{Call, reply, answer, reasonsOf}
 use Rattle.demands.specs.Alike.{Alike, openings, reseedings, drawings, fresh-drawings, closings, inquiries, AllAlike, none, more}
 use Rattle.demands.specs.Alike.{SameNumbers, AlikeTables, Told, toldOf, told}
-use Rattle.demands.proofs.Outcome.{refusal, service, reply-decided, all-numbered}
+use Rattle.demands.specs.Outcomes.{refusal, service}
+use Rattle.demands.proofs.Outcome.{reply-decided, all-numbered}
 use Rattle.demands.proofs.Moves.{sound-after, counter-held}
 use Rattle.demands.proofs.Draws.{not-16}
 use Rattle.demands.proofs.Standard.{sized-by}

@@ -2,12 +2,11 @@
 use mathlib.Core.Path.{_≡_, refl, sym, ap, subst, _∙_}
 use mathlib.Core.Bool.{cond}
 use mathlib.Core.Logic.{_⊎_, inl, inr}
-use mathlib.Core.List.{List, [], _∷_}
 use Prim.Native.Nat.{ℕ, zero, suc}
 use native.Mathlib.Omega.{arith}
 use lib.Dec.{eqb, eqb·suc-zero}
 use Rattle.slots.specs.declared.layout.Table.{Table}
-use Rattle.table.specs.Reasons.{Reasons, served, _when_else_, firstOf}
+use Rattle.table.specs.Reasons.{Reasons, _when_else_, firstOf}
 use Rattle.table.specs.Answers.{Reply, decided, stepped, installed}
 use Rattle.table.specs.Opening.{openReasons}
 use Rattle.table.specs.Reseeding.{reseedReasons}
@@ -18,12 +17,9 @@ use Rattle.table.specs.Inquiring.{inquireReasons}
 use Rattle.table.proofs.FirstReason.{NoneHolds, First, this, later}
 use Rattle.table.proofs.Outcomes.{refusing, serving}
 use Rattle.demands.specs.Calls.{Call, opens, reseeds, draws, freshDraws, closes, inquires, reply, number, reasonsOf, order}
+use Rattle.demands.specs.Outcomes.{refusal, service, numbersOf}
 use Rattle.demands.specs.Handles.{Listed, here, there}
-use Rattle.demands.proofs.Outcome.{refusal, service, Outcome, outcome, reply-decided}
-
-abbrev pub numbersOf : Reasons → List ℕ
-numbersOf served = []
-numbersOf (number when holds else rest) = number ∷ numbersOf rest
+use Rattle.demands.proofs.Outcome.{Outcome, outcome, reply-decided}
 
 -- a call's reasons are document 01's, in its order
 pub in-order : (t : Table) (c : Call) → numbersOf (reasonsOf t c) ≡ order c

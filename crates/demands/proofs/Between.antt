@@ -17,10 +17,11 @@ use Rattle.table.specs.declared.answers.Answer.{Answer}
 use Rattle.table.proofs.Allowed.{may-open, may-reseed, may-draw-fresh}
 use Rattle.demands.specs.Calls.{Call, opens, reseeds, freshDraws, answer, number, after, afterAll}
 use Rattle.demands.specs.Draws.{drawsServed, NoReseed}
+use Rattle.demands.specs.Outcomes.{Follows}
 use Rattle.demands.proofs.Answered.{served-none}
 use Rattle.demands.proofs.Moves.{sound-after, sound-reached}
 use Rattle.demands.proofs.Draws.{draws-most, at-most-interval, not-16}
-use Rattle.demands.proofs.Standard.{Follows, reseed-standard, fresh-draw-standard, open-standard, reseed-left, fresh-draw-left}
+use Rattle.demands.proofs.Standard.{reseed-standard, fresh-draw-standard, open-standard, reseed-left, fresh-draw-left}
 
 in-use : {m : ℕ} → (m ≡ 1) ⊎ (m ≡ 2) → not (eqb m 0) ≡ true
 in-use (inl e) = ap (λ m. not (eqb m 0)) e

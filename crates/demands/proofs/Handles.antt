@@ -30,7 +30,8 @@ use Rattle.demands.specs.Calls.{Call, closes, answer, number, after, aft
 use Rattle.demands.specs.Handles.{issuedBy, issued, Listed, here, there, Distinct, Rising}
 use Rattle.demands.specs.Handles.{Under, reseed, draw, fresh-draw, close, inquire}
 use Rattle.demands.specs.Handles as H
-use Rattle.demands.proofs.Outcome.{refusal, service, reply-decided}
+use Rattle.demands.specs.Outcomes.{refusal, service}
+use Rattle.demands.proofs.Outcome.{reply-decided}
 use Rattle.demands.proofs.Answered.{served-none}
 use Rattle.demands.proofs.Kept.{closing-frees}
 use Rattle.demands.proofs.Moves.{Moves, stays, adds, steps, ends, moved, sound-after, sound-after-all, sound-reached}

@@ -13,6 +13,7 @@ use Rattle.table.specs.Answers.{Reply, stepped, installed}
 use Rattle.table.proofs.Outcomes.{refusing, serving}
 use Rattle.table.proofs.Allowed.{may-close}
 use Rattle.demands.specs.Calls.{Call, opens, reseeds, draws, freshDraws, closes, inquires, number, after, own}
+use Rattle.demands.specs.Calls.{NoOpening, reseeding, drawing, drawing-fresh, closing, inquiring}
 use Rattle.demands.proofs.Outcome.{Outcome, outcome}
 use Rattle.demands.proofs.Answered.{served-is, served-none}
 
@@ -29,14 +30,6 @@ others-kept t c j other = go c (outcome t c) other
     go (freshDraws handle s o e a) (serving none) h = slotAt-other t (handle % 16) _ j h
     go (closes handle) (serving none) h = slotAt-other t (handle % 16) _ j h
     go (inquires handle) (serving none) h = refl
-
--- of a call that is no opening
-pub data NoOpening : Call → Type 0 where
-  reseeding : {handle : ℕ} {e a : _} → NoOpening (reseeds handle e a)
-  drawing : {handle strength : ℕ} {o a : _} → NoOpening (draws handle strength o a)
-  drawing-fresh : {handle strength : ℕ} {o e a : _} → NoOpening (freshDraws handle strength o e a)
-  closing : {handle : ℕ} → NoOpening (closes handle)
-  inquiring : {handle : ℕ} → NoOpening (inquires handle)
 
 pub last-kept : (t : Table) (c : Call) → NoOpening c → lastSerial (after t c) ≡ lastSerial t
 unfolding stepped

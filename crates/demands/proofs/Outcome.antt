@@ -2,15 +2,11 @@
 use mathlib.Core.Path.{_≡_, refl, sym, subst}
 use mathlib.Core.Bool.{Bool, true, false, cond}
 use mathlib.Core.List.{[]}
-use Prim.Native.Nat.{ℕ, _+_, _-_, _%_}
+use Prim.Native.Nat.{ℕ}
 use lib.Dec.{eqb}
-use lib.ListN.{length}
-use Rattle.slots.specs.Layout.{freeSlot, withSlot, lastSerial}
-use Rattle.slots.specs.Handle.{slotOf, lowestFree}
 use Rattle.slots.specs.declared.layout.Table.{Table}
-use Rattle.table.specs.Reasons.{Reasons, firstOf, rounded}
-use Rattle.table.specs.Answers.{Reply, refused, accepted, decided, stepped, steppedDraw, newSlot, installed}
-use Rattle.table.specs.Served.{opened, reseeded, drawn, freshDrawn}
+use Rattle.table.specs.Reasons.{Reasons, firstOf}
+use Rattle.table.specs.Answers.{Reply, decided}
 use Rattle.table.specs.Opening.{openReasons, openOf}
 use Rattle.table.specs.Reseeding.{reseedReasons, reseedOf}
 use Rattle.table.specs.Drawing.{drawReasons, drawOf}
@@ -20,31 +16,8 @@ use Rattle.table.specs.Inquiring.{inquireReasons, inquireOf}
 use Rattle.table.specs.declared.answers.Answer.{Answer}
 use Rattle.table.proofs.FirstReason.{numbered}
 use Rattle.table.proofs.Outcomes.{Decision, decision}
-use Rattle.demands.specs.Calls.{Call, opens, reseeds, draws, freshDraws, closes, inquires, reply, reasonsOf, lent}
-
--- refused: the table and the lent output as they were, 0 blocks and value 0
-abbrev pub refusal : Table → Call → (n : ℕ) → Reply
-refusal t c n = record { answer = refused t n; output = lent c }
-
--- what is served where no reason holds
-abbrev pub service : Table → Call → Reply
-service t (opens mechanism strength interval fresh entropy nonce personalization) =
-    let new = opened mechanism entropy nonce personalization in
-    record {
-      answer =
-          installed t (lowestFree t 0 16) (lastSerial t + 1)
-          (newSlot mechanism (rounded strength) interval fresh (lastSerial t + 1) (new .generator)) (new .blocks);
-      output = [];
-    }
-service t (reseeds handle entropy additional) =
-    record { answer = stepped t (handle % 16) (reseeded (slotOf t handle) entropy additional); output = [] }
-service t (draws handle strength out additional) = steppedDraw t (handle % 16) (drawn (slotOf t handle) (length out) additional)
-service t (freshDraws handle strength out entropy additional) =
-    steppedDraw t (handle % 16) (freshDrawn (slotOf t handle) (length out) entropy additional)
-service t (closes handle) = record { answer = accepted (withSlot t (handle % 16) freeSlot) 0 0; output = [] }
-service t (inquires handle) =
-    let s = slotOf t handle in
-    record { answer = accepted t 0 (s .interval + 1 - s .counter); output = [] }
+use Rattle.demands.specs.Outcomes.{refusal, service}
+use Rattle.demands.specs.Calls.{Call, opens, reseeds, draws, freshDraws, closes, inquires, reply, reasonsOf}
 
 abbrev pub Outcome : Table → Call → Reply → Type 0
 Outcome t c = Decision (reasonsOf t c) (refusal t c) (service t c)

@@ -32,15 +32,10 @@ use Rattle.table.proofs.Standing.{sized-in}
 use Rattle.table.proofs.Allowed.{may-open, may-reseed, may-draw, may-draw-fresh}
 use Rattle.demands.specs.Calls.{Call, opens, reseeds, draws, freshDraws, closes, inquires, reply, answer, number, after}
 use Rattle.demands.specs.Draws.{left}
+use Rattle.demands.specs.Outcomes.{Follows, Begins}
 use Rattle.demands.proofs.Outcome.{Outcome, outcome}
 use Rattle.demands.proofs.Answered.{served-is, served-none}
 use Rattle.demands.proofs.Draws.{not-16}
-
--- the generator under the handle has made its step to this state, and the rest of its slot is as it was
-pub record Follows (t : Table) (h : ℕ) (a : Answer) (st : State) (blocks : ℕ) : Type 0 where
-  pub slot : slotOf (a .table) h ≡ withGenerator (slotOf t h) (standing st)
-  pub state : stateIn (slotOf (a .table) h) ≡ st
-  pub counted : a .blocks ≡ blocks
 
 module _ (t : Table) (h : ℕ) (whole : sound t ≡ true) where
   follows : (a : Answer) (st : State) (blocks : ℕ) → Sized (stateBytes sha256 (mechanismIn (slotOf t h))) st
@@ -125,16 +120,8 @@ left-new : (interval : ℕ) (m : Mechanism) (e n p : List ℕ) → interval + 1 
 unfolding standing
 left-new interval m e n p = ap (λ k. interval + 1 - k) (counter-opening sha256 m e n p) ∙ omega arith
 
--- a served opening is the standard's: the new generator, under the handle that is given out
-pub record Begins (t : Table) (a : Answer) (new : Slot) (st : State) (blocks : ℕ) : Type 0 where
-  pub handle : a .value ≡ handleOf (lastSerial t + 1) (lowestFree t 0 16)
-  pub slot : slotOf (a .table) (a .value) ≡ new
-  pub state : stateIn (slotOf (a .table) (a .value)) ≡ st
-  pub next-serial : lastSerial (a .table) ≡ lastSerial t + 1
-  pub counted : a .blocks ≡ blocks
-  pub all-left : left (a .value) (a .table) ≡ new .interval
-
 module _ (t : Table) (mechanism strength interval : ℕ) (fresh : Bool) (entropy nonce personalization : List ℕ) where
+  -- a served opening is the standard's
   pub open-standard :
       let c = opens mechanism strength interval fresh entropy nonce personalization in
       let m = opening sha256 (mechanismOf mechanism) entropy nonce personalization in

@@ -2,13 +2,14 @@
 use Prim.Native.Nat.{ℕ}
 use mathlib.Core.Path.{_≡_}
 use mathlib.Core.Bool.{Bool}
-use mathlib.Core.List.{List, [], _∷_}
+use mathlib.Core.List.{List, [], _∷_, map}
 use lib.ListN.{length}
 use Rattle.slots.specs.Layout.{slotAt, lastSerial}
 use Rattle.slots.specs.declared.slot.Slot.{Slot}
 use Rattle.slots.specs.declared.layout.Table.{Table}
+use Rattle.table.specs.Answers.{Reply}
 use Rattle.table.specs.declared.answers.Answer.{Answer}
-use Rattle.demands.specs.Calls.{Call, opens, reseeds, draws, freshDraws, closes, inquires, answer, after}
+use Rattle.demands.specs.Calls.{Call, opens, reseeds, draws, freshDraws, closes, inquires, run}
 
 pub data Alike : Call → Call → Type 0 where
   openings : {mechanism strength interval : ℕ} {fresh : Bool} {e e′ n n′ p p′ : List ℕ} → length e ≡ length e′ → length n ≡ length n′
@@ -50,5 +51,4 @@ abbrev pub toldOf : Answer → Told
 toldOf a = record { number = a .number; blocks = a .blocks; value = a .value }
 
 abbrev pub told : Table → List Call → List Told
-told t [] = []
-told t (c ∷ cs) = toldOf (answer t c) ∷ told (after t c) cs
+told t cs = map (λ (r : Reply). toldOf (r .answer)) (run t cs)
