@@ -31,6 +31,7 @@ use Rattle.table.proofs.Outcomes.{refusing, serving}
 use Rattle.table.proofs.Standing.{sized-in}
 use Rattle.table.proofs.Allowed.{may-open, may-reseed, may-draw, may-draw-fresh}
 use Rattle.demands.specs.Calls.{Call, opens, reseeds, draws, freshDraws, closes, inquires, reply, answer, number, after}
+use Rattle.demands.specs.Calls as Calls
 use Rattle.demands.specs.Draws.{left}
 use Rattle.demands.specs.Outcomes.{Follows, Begins}
 use Rattle.demands.proofs.Outcome.{Outcome, outcome}
@@ -170,6 +171,18 @@ inquire-blocks t h = go (outcome t (inquires h))
     go : {r : Reply} → Outcome t (inquires h) r → r .answer .blocks ≡ 0
     go (refusing n f) = refl
     go (serving none) = refl
+
+-- open's value is the handle and inquire's the draws left; any other call's is 0
+pub no-value : (t : Table) (c : Call) → Calls.NoValue c → answer t c .value ≡ 0
+unfolding stepped
+no-value t c kind = go kind (outcome t c)
+  where
+    go : {c : Call} → Calls.NoValue c → {r : Reply} → Outcome t c r → r .answer .value ≡ 0
+    go kind (refusing n f) = refl
+    go Calls.reseeding (serving none) = refl
+    go Calls.drawing (serving none) = refl
+    go Calls.drawing-fresh (serving none) = refl
+    go Calls.closing (serving none) = refl
 
 -- no call reports more than 8,288 blocks
 pub blocks-most : (t : Table) (c : Call) → answer t c .blocks ≤ 8288

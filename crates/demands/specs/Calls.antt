@@ -103,3 +103,10 @@ pub data NoOpening : Call → Type 0 where
   drawing-fresh : {handle strength : ℕ} {o e a : List ℕ} → NoOpening (freshDraws handle strength o e a)
   closing : {handle : ℕ} → NoOpening (closes handle)
   inquiring : {handle : ℕ} → NoOpening (inquires handle)
+
+-- and those that give out no value
+pub data NoValue : Call → Type 0 where
+  reseeding : {handle : ℕ} {e a : List ℕ} → NoValue (reseeds handle e a)
+  drawing : {handle strength : ℕ} {o a : List ℕ} → NoValue (draws handle strength o a)
+  drawing-fresh : {handle strength : ℕ} {o e a : List ℕ} → NoValue (freshDraws handle strength o e a)
+  closing : {handle : ℕ} → NoValue (closes handle)
