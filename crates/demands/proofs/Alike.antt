@@ -32,8 +32,7 @@ use Rattle.demands.specs.Alike.{Alike, openings, reseedings, drawings, f
 use Rattle.demands.specs.Alike.{SameNumbers, AlikeTables, Told, toldOf, told}
 use Rattle.demands.specs.Outcomes.{refusal, service}
 use Rattle.demands.proofs.Outcome.{reply-decided, all-numbered}
-use Rattle.demands.proofs.Moves.{sound-after, counter-held}
-use Rattle.demands.proofs.Draws.{not-16}
+use Rattle.demands.proofs.Moves.{sound-after, counter-held, below-16}
 use Rattle.demands.proofs.Standard.{sized-by}
 
 -- two calls with the same reasons come out in the same way
@@ -166,7 +165,7 @@ module _ {t u : Table} (tables : AlikeTables t u) (t-sound : sound t ≡ true) (
         tables =
             alike-later next
             (alike-with tables t-sound u-sound (lowestFree t 0 16) (lowestFree u 0 16) _ _ here
-            (not-16 (lowest-most t 0 16) (may-open ok .slot-free))
+            (below-16 (lowest-most t 0 16) (may-open ok .slot-free))
             (same-new m s i f _ _ next
             (counter-opening sha256 (mechanismOf m) e n p ∙ sym (counter-opening sha256 (mechanismOf m) e′ n′ p′))));
       }

@@ -1,6 +1,6 @@
 -- Demand 1: what a call is answered, and that a refusal changes nothing. Assumes nothing.
 use mathlib.Core.Path.{_≡_, refl, sym, ap, subst, _∙_}
-use mathlib.Core.Bool.{cond}
+use mathlib.Core.Bool.{false≢true, cond}
 use mathlib.Core.Logic.{_⊎_, inl, inr}
 use Prim.Native.Nat.{ℕ, zero, suc}
 use native.Mathlib.Omega.{arith}
@@ -69,7 +69,7 @@ answered t c = go (outcome t c)
     go (serving none) = serves (service-number t c) none refl
 
 no-reason-first : {n : ℕ} (reasons : Reasons) → First n reasons → NoneHolds reasons → ⊥
-no-reason-first (n when holds else rest) this none = let never : _≡_ {A = ℕ} 0 1 = cc (none .0) in omega arith
+no-reason-first (n when holds else rest) this none = false≢true (sym (none .0))
 no-reason-first (number when holds else rest) (later f) none = no-reason-first rest f (none .1)
 
 module _ (t : Table) (c : Call) where

@@ -19,8 +19,8 @@ use Rattle.demands.specs.Calls.{Call, opens, reseeds, freshDraws, answer
 use Rattle.demands.specs.Draws.{drawsServed, NoReseed}
 use Rattle.demands.specs.Outcomes.{Follows}
 use Rattle.demands.proofs.Answered.{served-none}
-use Rattle.demands.proofs.Moves.{sound-after, sound-reached}
-use Rattle.demands.proofs.Draws.{draws-most, at-most-interval, not-16}
+use Rattle.demands.proofs.Moves.{below-16, sound-after, sound-reached}
+use Rattle.demands.proofs.Draws.{draws-most, at-most-interval}
 use Rattle.demands.proofs.Standard.{reseed-standard, fresh-draw-standard, open-standard, reseed-left, fresh-draw-left}
 
 in-use : {m : ℕ} → (m ≡ 1) ⊎ (m ≡ 2) → not (eqb m 0) ≡ true
@@ -69,7 +69,7 @@ module _ (t : Table) (mechanism strength interval : ℕ) (fresh : Bool) (entropy
       let c = opens mechanism strength interval fresh entropy nonce personalization in
       let may = may-open (served-none t c so) in
       let begins = open-standard t mechanism strength interval fresh entropy nonce personalization so in
-      let room = not-16 (lowest-most t 0 16) (may .slot-free) in
+      let room = below-16 (lowest-most t 0 16) (may .slot-free) in
       names-by (after t c) (answer t c .value) (ap inUse (begins .slot) ∙ in-use (may .mechanism-so))
       (ap (λ (s : Slot). s .serial) (begins .slot)
       ∙ sym (ap (λ n. n / 16) (begins .handle) ∙ handle-serial (lastSerial t + 1) (lowestFree t 0 16) room))

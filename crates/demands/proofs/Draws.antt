@@ -4,7 +4,7 @@ use mathlib.Core.Path.{_≡_, refl, sym, ap, ap₂, subst, _∙_}
 use mathlib.Core.Bool.{Bool, true, false, false≢true, _&&_, cond}
 use mathlib.Core.Logic.{_≢_}
 use mathlib.Core.List.{List, [], _∷_}
-use Prim.Native.Nat.{ℕ, suc, _+_, _-_, _/_, _%_, _≤_, _<_}
+use Prim.Native.Nat.{ℕ, suc, _+_, _-_, _/_, _%_, _≤_}
 use native.Mathlib.Nat.{zero-add}
 use native.Mathlib.Decide.{ℕ-discrete}
 use native.Mathlib.Omega.{arith}
@@ -31,7 +31,7 @@ use Rattle.demands.specs.Handles as Handles
 use Rattle.demands.specs.Draws.{left, drewBy, drawsServed, reseededBy, NoReseed, none, more}
 use Rattle.demands.proofs.Outcome.{Outcome, outcome}
 use Rattle.demands.proofs.Answered.{served-is}
-use Rattle.demands.proofs.Moves.{moved, counter-held, sound-after}
+use Rattle.demands.proofs.Moves.{moved, counter-held, below-16, sound-after}
 use Rattle.demands.proofs.Handles.{unnamed-2, names-same, same-parts, last-moved, gone-after, gone, le-then}
 
 -- what a call that served n draws under the handle did for it: that many fewer are left, or it was closed
@@ -46,9 +46,6 @@ alone h t u no-draw named same =
 
 one-fewer : {c i k : ℕ} → k ≡ c + 1 → c ≤ i → 1 + (i + 1 - k) ≡ i + 1 - c
 one-fewer e h = omega arith
-
-pub not-16 : {n : ℕ} → n ≤ 16 → (n ≡ 16 → ⊥) → n < 16
-not-16 h l = omega (arith, l)
 
 refused-drew : (h : ℕ) (c : Call) (t : Table) (n : ℕ) → drewBy h c (record { number = suc n; table = t; blocks = 0; value = 0 }) ≡ 0
 refused-drew h (opens m s i f e n p) t k = refl
@@ -75,7 +72,7 @@ module _ (h : ℕ) (t : Table) (whole : sound t ≡ true) (is : names t h ≡ tr
       ∙ slotAt-other t (lowestFree t 0 16) s (h % 16)
       (λ at.
       false≢true
-      (sym (lowest-free t 0 16 (not-16 (lowest-most t 0 16) room)) ∙ ap (λ i. inUse (slotAt t i)) (sym at) ∙ names-used t h is))
+      (sym (lowest-free t 0 16 (below-16 (lowest-most t 0 16) room)) ∙ ap (λ i. inUse (slotAt t i)) (sym at) ∙ names-used t h is))
 
   at-own : (s : Slot) → slotOf (withSlot t (h % 16) s) h ≡ s
   at-own s = slotAt-same t (h % 16) s (sound-has t whole (h % 16) (slot-below t h))

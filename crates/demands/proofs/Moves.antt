@@ -65,7 +65,7 @@ at-two e h = (omega arith, omega arith)
 at-next : {n c k : ℕ} → n ≡ c + 1 → c ≤ k → (1 ≤ n) × (n ≤ k + 1)
 at-next e h = (omega arith, omega arith)
 
-below-16 : {n : ℕ} → n ≤ 16 → (n ≡ 16 → ⊥) → n < 16
+pub below-16 : {n : ℕ} → n ≤ 16 → (n ≡ 16 → ⊥) → n < 16
 below-16 h l = omega (arith, l)
 
 refused-issues : (c : Call) (t : Table) (n : ℕ) → issuedBy c (record { number = suc n; table = t; blocks = 0; value = 0 }) ≡ []

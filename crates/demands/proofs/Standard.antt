@@ -36,7 +36,7 @@ use Rattle.demands.specs.Draws.{left}
 use Rattle.demands.specs.Outcomes.{Follows, Begins}
 use Rattle.demands.proofs.Outcome.{Outcome, outcome}
 use Rattle.demands.proofs.Answered.{served-is, served-none}
-use Rattle.demands.proofs.Draws.{not-16}
+use Rattle.demands.proofs.Moves.{below-16}
 
 module _ (t : Table) (h : ℕ) (whole : sound t ≡ true) where
   follows : (a : Answer) (st : State) (blocks : ℕ) → Sized (stateBytes sha256 (mechanismIn (slotOf t h))) st
@@ -135,7 +135,7 @@ module _ (t : Table) (mechanism strength interval : ℕ) (fresh : Bool) (entropy
       let is = served-is t c so in
       let i : ℕ = lowestFree t 0 16 in
       let may = may-open (served-none t c so) in
-      let room = not-16 (lowest-most t 0 16) (may .slot-free) in
+      let room = below-16 (lowest-most t 0 16) (may .slot-free) in
       let new = newSlot mechanism (rounded strength) interval fresh (lastSerial t + 1) (standing (m .value)) in
       let slot-is : slotOf (answer t c .table) (answer t c .value) ≡ new =
       ap (λ (r : Reply). slotOf (r .answer .table) (r .answer .value)) is

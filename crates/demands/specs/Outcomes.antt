@@ -16,6 +16,7 @@ use Rattle.table.specs.declared.answers.Answer.{Answer}
 use Rattle.demands.specs.Calls.{Call, opens, reseeds, draws, freshDraws, closes, inquires, lent}
 use Rattle.demands.specs.Draws.{left}
 
+-- the numbers of a list of reasons, in their order
 abbrev pub numbersOf : Reasons → List ℕ
 numbersOf served = []
 numbersOf (number when holds else rest) = number ∷ numbersOf rest
