@@ -1,0 +1,11 @@
+-- The three demands, by subject: demand 1 (Answered, Moves, Kept), demand 2 (Standard, Handles, Draws, Between), demand 3 (Alike).
+pub mod Outcome
+pub mod Answered
+pub mod Moves
+pub mod Kept
+pub mod Handles
+pub mod Draws
+pub mod Standard
+pub mod Between
+pub mod Alike
+pub mod PLines
