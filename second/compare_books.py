@@ -13,16 +13,17 @@ import subprocess
 import sys
 import time
 
+from book import record_bytes
 from calls import LEAST_NONCE, MOST_ADDITIONAL, MOST_ENTROPY, MOST_NONCE, MOST_PERSONALIZATION
 from check_drbg import CHECKS, DRAWS, opening as opening_strings, steps_of
 from make_books import BOOKS, SPOILED, output_of
 from mechanisms import HASH_DRBG, HMAC_DRBG
 from random_books import random_book
-from records import DRAW, RESEED
+from records import DRAW, MOST_BOOK, RESEED
 from spoiled import books_in
 from tally import Tally
 from vectors import PUBLISHED, cases
-from writer import Writer, close, draw, fresh_draw, reseed
+from writer import Writer, close, draw, fresh_draw, inquire, reseed
 
 FAILED = BOOKS.parent / "target" / "failed"
 SLOTS = 16
@@ -186,6 +187,12 @@ def compare_pieces(program):
         program.note(output == expected, f"stored book {name} in pieces of {size}", book)
 
 
+def compare_far_too_long(program):
+    """More than the program will read: the rest is left in the pipe."""
+    book = record_bytes(inquire(16)) * MOST_BOOK * 2
+    program.prints("a book of four times the limit", book, b"book 0\n")
+
+
 def small_stack():
     resource.setrlimit(resource.RLIMIT_STACK, (STACK, STACK))
 
@@ -218,6 +225,7 @@ def main(path, seed):
     counted(program, "NIST's cases as books", lambda: compare_nist(program))
     counted(program, "random books", lambda: compare_random(program, seed))
     counted(program, "books in pieces", lambda: compare_pieces(program))
+    counted(program, "a book far too long", lambda: compare_far_too_long(program))
     counted(program, "a stack of 1 MiB", lambda: compare_stack(program))
     print(program.tally.line())
     return program.tally.status()
