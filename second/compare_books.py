@@ -1,0 +1,241 @@
+"""python3 second/compare_books.py PROGRAM [SEED]: the program beside the second program.
+
+Runs the program on the stored books, on NIST's DRBG cases as books, on random books, on a
+book that comes in small pieces, and on a small stack. It must print what is stored, what
+NIST published, and what the second program prints, byte for byte. SEED repeats the random
+books of an earlier run. A book that fails is kept in target/failed/.
+"""
+
+import pathlib
+import random
+import resource
+import subprocess
+import sys
+import time
+
+from book import record_bytes
+from calls import LEAST_NONCE, MOST_ADDITIONAL, MOST_ENTROPY, MOST_NONCE, MOST_PERSONALIZATION
+from check_drbg import CHECKS, DRAWS, opening as opening_strings, steps_of
+from make_books import BOOKS, SPOILED, output_of
+from mechanisms import HASH_DRBG, HMAC_DRBG
+from random_books import random_book
+from records import DRAW, MOST_BOOK, RESEED
+from spoiled import books_in
+from tally import Tally
+from vectors import PUBLISHED, cases
+from writer import Writer, close, draw, fresh_draw, inquire, reseed
+
+FAILED = BOOKS.parent / "target" / "failed"
+SLOTS = 16
+RANDOM_BOOKS = 600
+STACK = 1024 * 1024
+SECONDS = 60        # for one run; the longest takes a small part of one
+
+
+class Program:
+    """The program under comparison, and the tally of its runs."""
+
+    def __init__(self, path):
+        self.path = str(pathlib.Path(path).resolve())
+        self.tally = Tally()
+
+    def output(self, book, **settings):
+        """What it prints; None if it fails, hangs or complains."""
+        try:
+            ran = subprocess.run(
+                [self.path], input=book, capture_output=True, timeout=SECONDS, **settings)
+        except subprocess.TimeoutExpired:
+            return None
+        return ran.stdout if ran.returncode == 0 and ran.stderr == b"" else None
+
+    def note(self, held, name, book):
+        self.tally.note(held, name)
+        if not held:
+            keep(name, book)
+
+    def prints(self, name, book, expected, **settings):
+        self.note(self.output(book, **settings) == expected, name, book)
+
+
+def keep(name, book):
+    FAILED.mkdir(parents=True, exist_ok=True)
+    safe = "".join(sign if sign.isalnum() else "-" for sign in name)
+    (FAILED / f"{safe}.book").write_bytes(book)
+
+
+# The stored books
+
+def stored_books():
+    """As (name, book, output)."""
+    for path in sorted(BOOKS.glob("*.book")):
+        yield path.stem, path.read_bytes(), path.with_suffix(".lines").read_bytes()
+    yield from books_in((BOOKS / SPOILED).read_text())
+
+
+def compare_stored(program):
+    for name, book, expected in stored_books():
+        program.prints(f"stored book {name}", book, expected)
+
+
+# NIST's cases
+
+def case_fits(case):
+    """Whether all of the case's strings lie within document 01's limits."""
+    entropy, nonce, personalization = opening_strings(case)
+    least = int(case.headings["EntropyInputLen"]) // 8
+    return (
+        LEAST_NONCE <= len(nonce) <= MOST_NONCE
+        and len(personalization) <= MOST_PERSONALIZATION
+        and least <= len(entropy) <= MOST_ENTROPY
+        and all(
+            (kind == DRAW or least <= len(fresh) <= MOST_ENTROPY)
+            and len(additional) <= MOST_ADDITIONAL
+            for kind, fresh, additional in steps_of(case)))
+
+
+def record_of_step(step, handle, length):
+    kind, entropy, additional = step
+    if kind == RESEED:
+        return reseed(handle, entropy, additional)
+    if kind == DRAW:
+        return draw(handle, length, additional=additional)
+    return fresh_draw(handle, length, entropy=entropy, additional=additional)
+
+
+def book_of_cases(mechanism, group):
+    """All cases opened, then step by step together, then closed. Also the lines of the last draws."""
+    writer = Writer()
+    handles = [
+        writer.opened(
+            mechanism=mechanism, strength=int(case.headings["EntropyInputLen"]), interval=DRAWS,
+            fresh=int(case.headings["PredictionResistance"] == "True"),
+            **dict(zip(("entropy", "nonce", "personalization"), opening_strings(case))))
+        for case in group]
+    rounds = list(zip(*map(steps_of, group), strict=True))
+    for steps in rounds:
+        for case, handle, step in zip(group, handles, steps):
+            writer.call(record_of_step(step, handle, len(case.string("ReturnedBits"))))
+    writer.calls(*map(close, handles))
+    first_line = len(group) * len(rounds)
+    return writer.book, range(first_line, first_line + len(group))
+
+
+def value_in(lines, place):
+    """The value that a line of output shows, if there is such a line."""
+    return lines[place].split(" ")[-1] if place < len(lines) else None
+
+
+def compare_group(program, path, mechanism, group):
+    book, last_draws = book_of_cases(mechanism, group)
+    output = program.output(book) or b""
+    lines = output.decode("ascii", errors="replace").splitlines()
+    for place, case in zip(last_draws, group):
+        held = value_in(lines, place) == case.value("ReturnedBits")
+        program.note(held, f"{path} line {case.line}", book)
+    whole = f"{path} lines {group[0].line} to {group[-1].line}, whole output"
+    program.note(output == output_of(book), whole, book)
+
+
+def compare_file(program, path):
+    """Prints how many cases were passed over, as a case outside our limits cannot be a book's."""
+    mechanism = HMAC_DRBG if "HMAC" in path else HASH_DRBG
+    every = [case for case in cases(PUBLISHED / path) if case.headings["hash"] == "SHA-256"]
+    fitting = [case for case in every if case_fits(case)]
+    print(f"{path}: {len(fitting)} cases, {len(every) - len(fitting)} passed over")
+    if fitting == []:
+        program.tally.note(False, f"{path}: no case ran")
+    for first in range(0, len(fitting), SLOTS):
+        compare_group(program, path, mechanism, fitting[first:first + SLOTS])
+
+
+def compare_nist(program):
+    for path, _ in CHECKS:
+        compare_file(program, path)
+
+
+# Random books
+
+def compare_random(program, seed):
+    print(f"{RANDOM_BOOKS} random books, seed {seed}")
+    for count in range(RANDOM_BOOKS):
+        book = random_book(random.Random(f"{seed} {count}"))
+        program.prints(f"random book {count} of seed {seed}", book, output_of(book))
+
+
+# The way that a book comes in, and a small stack
+
+def in_pieces(path, book, size):
+    """What the program prints when the book comes in pieces, with pauses at its start and its end."""
+    with subprocess.Popen(
+            [path], stdin=subprocess.PIPE, stdout=subprocess.PIPE, bufsize=0) as running:
+        try:
+            for at in range(0, len(book), size):
+                running.stdin.write(book[at:at + size])
+                if at < 16 * size or len(book) - at < 16 * size:
+                    time.sleep(0.002)
+            return running.communicate(timeout=SECONDS)[0]
+        except (BrokenPipeError, subprocess.TimeoutExpired):
+            running.kill()
+            return None
+
+
+def compare_pieces(program):
+    for name, size in (("example", 1), ("interleaved", 7), ("longest-book", 1000), ("too-long", 1000)):
+        book = (BOOKS / f"{name}.book").read_bytes()
+        expected = (BOOKS / f"{name}.lines").read_bytes()
+        output = in_pieces(program.path, book, size)
+        program.note(output == expected, f"stored book {name} in pieces of {size}", book)
+
+
+def compare_far_too_long(program):
+    """More than the program will read: the rest is left in the pipe."""
+    book = record_bytes(inquire(16)) * MOST_BOOK * 2
+    program.prints("a book of four times the limit", book, b"book 0\n")
+
+
+def small_stack():
+    resource.setrlimit(resource.RLIMIT_STACK, (STACK, STACK))
+
+
+def compare_stack(program):
+    for mechanism in (HMAC_DRBG, HASH_DRBG):
+        writer = Writer()
+        handle = writer.opened(mechanism=mechanism)
+        writer.calls(draw(handle, 65536), fresh_draw(handle, 65536), close(handle))
+        program.prints(
+            f"a stack of 1 MiB, mechanism {mechanism}", writer.book, output_of(writer.book),
+            preexec_fn=small_stack)
+
+
+def counted(program, name, compare):
+    """A part that ran nothing is a failure, so that none is lost unseen."""
+    before = program.tally.passed + program.tally.failed
+    compare()
+    ran = program.tally.passed + program.tally.failed - before
+    print(f"{name}: {ran} compared")
+    if ran == 0:
+        program.tally.note(False, f"{name}: none")
+
+
+def main(path, seed):
+    if not pathlib.Path(path).is_file():
+        raise SystemExit(f"compare_books.py: there is no program {path}")
+    program = Program(path)
+    counted(program, "stored books", lambda: compare_stored(program))
+    counted(program, "NIST's cases as books", lambda: compare_nist(program))
+    counted(program, "random books", lambda: compare_random(program, seed))
+    counted(program, "books in pieces", lambda: compare_pieces(program))
+    counted(program, "a book far too long", lambda: compare_far_too_long(program))
+    counted(program, "a stack of 1 MiB", lambda: compare_stack(program))
+    print(program.tally.line())
+    return program.tally.status()
+
+
+def fresh_seed():
+    return str(random.SystemRandom().randrange(10**9))
+
+
+if __name__ == "__main__":
+    if len(sys.argv) not in (2, 3):
+        raise SystemExit("usage: compare_books.py PROGRAM [SEED]")
+    sys.exit(main(sys.argv[1], sys.argv[2] if len(sys.argv) == 3 else fresh_seed()))

@@ -1,0 +1,51 @@
+"""What the books of the gate must reach, whatever their lines are."""
+
+import unittest
+
+from make_books import SPOILED, made
+from spoiled import books_in
+
+REACHED = {0, *range(2, 10), 11, 12, 13}    # 1, 10 and 14 lie beyond a book
+
+
+def lines(files, name):
+    return files[name].decode().splitlines()
+
+
+def answers(lines):
+    return [int(line.split(" ")[1]) for line in lines]
+
+
+class Books(unittest.TestCase):
+    @classmethod
+    def setUpClass(cls):
+        cls.files = made()
+
+    def test_every_answer_with_nothing_else_wrong(self):
+        self.assertEqual(
+            answers(lines(self.files, "answers.lines")),
+            [0, 0, 2, 3, 4, 5, 6, 7, 8, 9, 11, 12] + 15 * [0] + [13])
+
+    def test_no_answer_beyond_a_book(self):
+        found = set()
+        for name in self.files:
+            if name.endswith(".lines") and name != "too-long.lines":
+                found.update(answers(lines(self.files, name)))
+        self.assertEqual(found, REACHED)
+
+    def test_the_order_of_checks(self):
+        self.assertEqual(
+            answers(lines(self.files, "order.lines")),
+            [0, 0] + 5 * [2] + [7, 8] + [4, 7, 12] + [4, 7, 11]
+            + 15 * [0] + [3, 4, 5, 6, 8, 9, 13] + [0])
+
+    def test_the_longest_book_and_one_byte_more(self):
+        self.assertNotIn(b"book", self.files["longest-book.lines"])
+        self.assertEqual(self.files["too-long.lines"], b"book 0\n")
+
+    def test_spoiled_books_end_the_run(self):
+        whole = []
+        for name, _, output in books_in(self.files[SPOILED].decode()):
+            if not output.decode().splitlines()[-1].startswith("book "):
+                whole.append(name)
+        self.assertEqual(whole, ["reseed, entropy of 2,048"])
