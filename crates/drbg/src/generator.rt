@@ -68,7 +68,8 @@ fn hmac_opened<'a>(entropy: &'a [u8], nonce: &'a [u8], personalization: &'a [u8]
 
 fn hmac_reseeded<'a>(g: Generator, entropy: &'a [u8], additional: &'a [u8]) -> Served
     requires { ⌜ (length (now entropy) ≤ 1024) × (length (now additional) ≤ 1024) ⌝ }
-    ensures { λ r. ⌜ r ≡ served (reseeding sha256 HMAC-DRBG (stateOf HMAC-DRBG g) (now (entropy .entry)) (now (additional .entry))) ⌝ }
+    ensures is { λ r. ⌜ r ≡ served (reseeding sha256 HMAC-DRBG (stateOf HMAC-DRBG g) (now (entropy .entry)) (now (additional .entry))) ⌝ }
+    ensures few { λ r. ⌜ r .blocks ≤ 8288 ⌝ }
 {
     let first = g.first;
     let second = g.second;
@@ -81,7 +82,8 @@ fn hmac_reseeded<'a>(g: Generator, entropy: &'a [u8], additional: &'a [u8]) -> S
 
 fn hmac_drawn(g: Generator, out: &mut [u8], additional: &[u8]) -> Served
     requires { ⌜ (length (now out) ≤ 65536) × (length (now additional) ≤ 1024) × (g .counter < 2 ^ 63) ⌝ }
-    ensures { λ r. ⌜ record { served = r; output = now (out .exit) } ≡ filled (draw sha256 HMAC-DRBG (stateOf HMAC-DRBG g) (length (now (out .entry))) (now (additional .entry))) ⌝ }
+    ensures is { λ r. ⌜ record { served = r; output = now (out .exit) } ≡ filled (draw sha256 HMAC-DRBG (stateOf HMAC-DRBG g) (length (now (out .entry))) (now (additional .entry))) ⌝ }
+    ensures few { λ r. ⌜ r .blocks ≤ 8288 ⌝ }
 {
     let first = g.first;
     let second = g.second;
@@ -120,7 +122,8 @@ fn hash_opened<'a>(entropy: &'a [u8], nonce: &'a [u8], personalization: &'a [u8]
 
 fn hash_reseeded<'a>(g: Generator, entropy: &'a [u8], additional: &'a [u8]) -> Served
     requires { ⌜ (length (now entropy) ≤ 1024) × (length (now additional) ≤ 1024) ⌝ }
-    ensures { λ r. ⌜ r ≡ served (reseeding sha256 Hash-DRBG (stateOf Hash-DRBG g) (now (entropy .entry)) (now (additional .entry))) ⌝ }
+    ensures is { λ r. ⌜ r ≡ served (reseeding sha256 Hash-DRBG (stateOf Hash-DRBG g) (now (entropy .entry)) (now (additional .entry))) ⌝ }
+    ensures few { λ r. ⌜ r .blocks ≤ 8288 ⌝ }
 {
     let first = g.first;
     let none = &entropy[..0];
@@ -130,18 +133,23 @@ fn hash_reseeded<'a>(g: Generator, entropy: &'a [u8], additional: &'a [u8]) -> S
     hash_served(v, c, 1, seed.blocks)
 }
 
-fn hash_drawn(g: Generator, out: &mut [u8], additional: &[u8]) -> Served
-    requires { ⌜ (length (now out) ≤ 65536) × (length (now additional) ≤ 1024) × (g .counter < 2 ^ 63) ⌝ }
-    ensures { λ r. ⌜ record { served = r; output = now (out .exit) } ≡ filled (draw sha256 Hash-DRBG (stateOf Hash-DRBG g) (length (now (out .entry))) (now (additional .entry))) ⌝ }
+fn hash_drawn(
+    first: [u8; 55],
+    c: [u8; 55],
+    counter: u64,
+    out: &mut [u8],
+    additional: &[u8],
+) -> Served
+    requires { ⌜ (length (now out) ≤ 65536) × (length (now additional) ≤ 1024) × (counter < 2 ^ 63) ⌝ }
+    ensures is { λ r. ⌜ record { served = r; output = now (out .exit) } ≡ filled (draw sha256 Hash-DRBG (record { first = first; second = c; counter = counter }) (length (now (out .entry))) (now (additional .entry))) ⌝ }
+    ensures few { λ r. ⌜ r .blocks ≤ 8288 ⌝ }
 {
-    let first = g.first;
-    let c = g.second;
     let begun = hash_drbg::refresh(first, additional);
     let v = begun.v;
     let output = hash_drbg::hashgen_filled(v, out);
-    let last = hash_drbg::step(v, c, g.counter);
+    let last = hash_drbg::step(v, c, counter);
     let next = last.v;
-    hash_served(next, c, g.counter + 1, begun.blocks + output + last.blocks)
+    hash_served(next, c, counter + 1, begun.blocks + output + last.blocks)
 }
 
 // SP 800-90A §9.1, step 9.
@@ -163,7 +171,8 @@ pub fn opened<'a>(
 // §9.2, step 6.
 pub fn reseeded<'a>(mechanism: u8, g: Generator, entropy: &'a [u8], additional: &'a [u8]) -> Served
     requires { ⌜ (length (now entropy) ≤ 1024) × (length (now additional) ≤ 1024) ⌝ }
-    ensures { λ r. ⌜ r ≡ served (reseeding sha256 (mechanismOf mechanism) (stateOf (mechanismOf mechanism) g) (now (entropy .entry)) (now (additional .entry))) ⌝ }
+    ensures is { λ r. ⌜ r ≡ served (reseeding sha256 (mechanismOf mechanism) (stateOf (mechanismOf mechanism) g) (now (entropy .entry)) (now (additional .entry))) ⌝ }
+    ensures few { λ r. ⌜ r .blocks ≤ 8288 ⌝ }
 {
     if mechanism == 1 {
         return hmac_reseeded(g, entropy, additional);
@@ -174,12 +183,15 @@ pub fn reseeded<'a>(mechanism: u8, g: Generator, entropy: &'a [u8], additional: 
 // §9.3.1, step 8.
 pub fn drawn(mechanism: u8, g: Generator, out: &mut [u8], additional: &[u8]) -> Served
     requires { ⌜ (length (now out) ≤ 65536) × (length (now additional) ≤ 1024) × (g .counter < 2 ^ 63) ⌝ }
-    ensures { λ r. ⌜ record { served = r; output = now (out .exit) } ≡ filled (draw sha256 (mechanismOf mechanism) (stateOf (mechanismOf mechanism) g) (length (now (out .entry))) (now (additional .entry))) ⌝ }
+    ensures is { λ r. ⌜ record { served = r; output = now (out .exit) } ≡ filled (draw sha256 (mechanismOf mechanism) (stateOf (mechanismOf mechanism) g) (length (now (out .entry))) (now (additional .entry))) ⌝ }
+    ensures few { λ r. ⌜ r .blocks ≤ 8288 ⌝ }
 {
     if mechanism == 1 {
         return hmac_drawn(g, out, additional);
     }
-    hash_drawn(g, out, additional)
+    let first = g.first;
+    let second = g.second;
+    hash_drawn(first, second, g.counter, out, additional)
 }
 
 // §9.3.1, steps 7 and 8.

@@ -1,36 +1,21 @@
+-- One mechanism or the other. Assumes nothing.
+use mathlib.Core.Path.{sym, _∙_}
+use borrow.Author.Tests.{eq-eqb, ne-eqb}
+use Rattle.drbg.specs.Generator.{stateOf}
 use borrow.Author.Needs.{needs}
 use Rattle.drbg.proofs.generator.drawn.Statement.{statement}
 use Rattle.drbg.proofs.generator.drawn.Tie as tie
-use Rattle.drbg.proofs.generator.drawn.Reads as reads
-use Rattle.drbg.proofs.generator.drawn.Lts as lts
-use Rattle.drbg.proofs.generator.hash_drawn.Reads as hash-drawn-reads
-use Rattle.drbg.proofs.generator.hmac_drawn.Reads as hmac-drawn-reads
 
--- src/generator.rt:180:9
-hmac-drawn-requires : tie.Need-hmac-drawn-requires
-hmac-drawn-requires c κs = search needs
-
--- src/generator.rt:180:9
-same-length : tie.Need-same-length
-same-length c = search needs
-
--- src/generator.rt:180:9
 returns : tie.Need-returns
-returns c = ?
+returns c =
+    let r = c .before .before .hmac-drawn .ensures in
+    (r .0 ∙ sym (rw (eq-eqb (c .before .before .before .before .before .before .before .args .mechanism) 1 (c .before .before .before .before .if1 .taken))), r .1)
 
--- src/generator.rt:182:5
-hash-drawn-requires : tie.Need-hash-drawn-requires
-hash-drawn-requires c κs = search needs
-
--- src/generator.rt:175:1
-same-length-2 : tie.Need-same-length-2
-same-length-2 c = search needs
-
--- src/generator.rt:175:1
 returns-2 : tie.Need-returns-2
-returns-2 c = ?
+unfolding stateOf
+returns-2 c =
+    let r = c .before .before .hash-drawn .ensures in
+    (r .0 ∙ sym (rw (ne-eqb (c .before .before .before .before .before .before .before .before .before .args .mechanism) 1 (c .before .before .before .before .before .before .if1 .left))), r .1)
 
 pub drawn-spec : {M : Type 1} → statement M
-drawn-spec =
-    tie.close
-    (tie.spec hmac-drawn-requires same-length returns hash-drawn-requires same-length-2 returns-2)
+drawn-spec = tie.close (tie.spec (λ c κs. search needs) (λ c. search needs) returns (λ c κs. search needs) (λ c. search needs) returns-2)

@@ -1,36 +1,26 @@
+-- Assumes nothing.
+use mathlib.Core.Path.{sym, _∙_}
+use mathlib.Core.List.{append-nil}
+use native.Mathlib.Omega.{arith}
+use lib.ListN.{take, replicate}
+use lib.Seq.{length-take-le}
+use Rattle.drbg.proofs.Pasted.{pasted}
 use borrow.Author.Needs.{needs}
 use Rattle.drbg.proofs.generator.front_of.Statement.{statement}
 use Rattle.drbg.proofs.generator.front_of.Tie as tie
-use Rattle.drbg.proofs.generator.front_of.Reads as reads
-use Rattle.drbg.proofs.generator.front_of.Lts as lts
-use Rattle.drbg.proofs.copies.copy.Reads as copy-reads
 
--- src/generator.rt:39:18
-slice-aggregate-copy : tie.Need-slice-aggregate-copy
-slice-aggregate-copy c = search needs
-
--- src/generator.rt:39:29
-array-share-prefix-f : tie.Need-array-share-prefix-f
-array-share-prefix-f c = search needs
-
--- src/generator.rt:39:29
 slice-aggregate-copy-2 : tie.Need-slice-aggregate-copy-2
-slice-aggregate-copy-2 c = ?
+slice-aggregate-copy-2 c = sym (length-take-le 32 (c .before .before .args .t1) (omega arith))
 
--- src/generator.rt:39:5
 copy-requires : tie.Need-copy-requires
-copy-requires c κs = ?
+copy-requires c κs =
+    let part = length-take-le 32 (c .before .before .args .t1) (omega arith) in
+    omega (arith, part)
 
--- src/generator.rt:35:1
 returns : tie.Need-returns
-returns c = ?
+returns c =
+    let f = c .before .before .before .before .args .t1 in
+    c .before .copy .ensures ∙ pasted (replicate 32 0) (take 32 f) 0 32 (length-take-le 32 f (omega arith)) ∙ append-nil (take 32 f)
 
 pub front-of-spec : {M : Type 1} → statement M
-front-of-spec =
-    tie.close
-    (tie.spec
-    slice-aggregate-copy
-    array-share-prefix-f
-    slice-aggregate-copy-2
-    copy-requires
-    returns)
+front-of-spec = tie.close (tie.spec (λ c. search needs) (λ c. search needs) slice-aggregate-copy-2 copy-requires returns)

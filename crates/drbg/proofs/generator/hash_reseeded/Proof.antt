@@ -1,33 +1,41 @@
+-- Assumes nothing.
+use Prim.Native.Nat.{_≤_}
+use mathlib.Core.Path.{_≡_, sym, ap, ap₂, _∙_}
+use mathlib.Core.List.{_∷_, _++_, append-nil}
+use native.Mathlib.Omega.{arith}
+use lib.Dec.{lit<}
+use lib.ListN.{length, length-append}
+use lib.Seq.{take-all}
+use Rattle.standard.specs.HashDrbg.{reseed, seeded}
+use Rattle.standard.specs.Sha256.{sha256}
+use Rattle.standard.proofs.Counts.{seeded-blocks}
+use Rattle.drbg.specs.Generator.{served, standing, stateOf}
+use Rattle.drbg.specs.Seeds.{seedOf}
+use Rattle.drbg.proofs.Standing.{field-55}
 use borrow.Author.Needs.{needs}
 use Rattle.drbg.proofs.generator.hash_reseeded.Statement.{statement}
 use Rattle.drbg.proofs.generator.hash_reseeded.Tie as tie
-use Rattle.drbg.proofs.generator.hash_reseeded.Reads as reads
-use Rattle.drbg.proofs.generator.hash_reseeded.Lts as lts
-use Rattle.drbg.proofs.generator.hash_served.Reads as hash-served-reads
-use Rattle.drbg.proofs.hash_df.led.Reads as led-reads
-use Rattle.drbg.proofs.hash_drbg.seed_from.Reads as seed-from-reads
 
--- src/generator.rt:126:9
-slice-aggregate-none : tie.Need-slice-aggregate-none
-slice-aggregate-none c = search needs
-
--- src/generator.rt:127:37
-led-requires : tie.Need-led-requires
-led-requires c κs = search needs
-
--- src/generator.rt:127:9
-seed-from-requires : tie.Need-seed-from-requires
-seed-from-requires c κs = search needs
-
--- src/generator.rt:130:5
-hash-served-requires : tie.Need-hash-served-requires
-hash-served-requires c κs = search needs
-
--- src/generator.rt:121:1
 returns : tie.Need-returns
-returns c = ?
+unfolding reseed served standing stateOf
+returns c =
+    let a = c .before .before .before .before .before .before .before .before .before .args in
+    let seed = c .before .before .before .seed-from in
+    let led = c .before .before .before .before .led in
+    let sizes = c .hash-served .ensures .1 in
+    let seeds : seedOf (seed .result) ≡ seeded sha256 (0x01 ∷ (a .g .first ++ (a .entropy .now ++ a .additional .now))) =
+    seed .ensures ∙
+    ap (seeded sha256)
+    (ap₂ _++_ (take-all 56 (led .result) (omega arith) ∙ led .ensures) (ap (λ s. a .entropy .now ++ s) (append-nil (a .additional .now)))) in (
+      c .hash-served .ensures .0 ∙ sym (rw (← seeds, field-55 (seed .result .v) (sizes .0), field-55 (seed .result .c) (sizes .1))),
+      omega (
+        arith,
+        ap (λ r. r .blocks) (c .hash-served .ensures .0),
+        simp length-append at (ap (λ m. m .blocks) seeds ∙ seeded-blocks sha256 (lit< tt) _),
+        ap length (led .ensures),
+        c .before .before .before .before .before .before .before .before .before .pre,
+      ),
+    )
 
 pub hash-reseeded-spec : {M : Type 1} → statement M
-hash-reseeded-spec =
-    tie.close
-    (tie.spec slice-aggregate-none led-requires seed-from-requires hash-served-requires returns)
+hash-reseeded-spec = tie.close (tie.spec (λ c. search needs) (λ c κs. search needs) (λ c κs. search needs) (λ c κs. search needs) returns)

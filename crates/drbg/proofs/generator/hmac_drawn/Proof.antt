@@ -1,76 +1,56 @@
+-- The parts of a draw, put together. Assumes nothing.
+use Prim.Native.Nat.{_+_, _≤_}
+use mathlib.Core.Path.{_≡_, sym, ap, _∙_}
+use mathlib.Core.List.{append-nil}
+use native.Mathlib.Omega.{arith}
+use lib.ListN.{length}
+use Rattle.standard.specs.State.{State}
+use Rattle.standard.specs.HmacDrbg.{update}
+use Rattle.standard.specs.Sha256.{sha256}
+use Rattle.drbg.specs.Keys.{keyed, updatedOf}
+use Rattle.drbg.specs.Generator.{stateOf, keptHmac}
+use Rattle.drbg.proofs.Standing.{served-hmac, few-hmac}
 use borrow.Author.Needs.{needs}
 use Rattle.drbg.proofs.generator.hmac_drawn.Statement.{statement}
 use Rattle.drbg.proofs.generator.hmac_drawn.Tie as tie
-use Rattle.drbg.proofs.generator.hmac_drawn.Reads as reads
-use Rattle.drbg.proofs.generator.hmac_drawn.Lts as lts
-use Rattle.drbg.proofs.generator.front_of.Reads as front-of-reads
-use Rattle.drbg.proofs.generator.hmac_served.Reads as hmac-served-reads
-use Rattle.drbg.proofs.hmac_drbg.output_filled.Reads as output-filled-reads
-use Rattle.drbg.proofs.hmac_drbg.refreshed.Reads as refreshed-reads
-use Rattle.drbg.proofs.hmac_drbg.update_all.Reads as update-all-reads
-use Rattle.drbg.proofs.hmac_drbg.with_blocks.Reads as with-blocks-reads
 
--- src/generator.rt:88:38
-front-of-requires : tie.Need-front-of-requires
-front-of-requires c κs = search needs
+-- what is known once the last update is done
+module _ (c : tie.After-update-all) where
+  abbrev state : State
+  state = record { first = c .before .before .before .before .before .before .before .before .before .before .before .front-of .result; second = c .before .before .before .before .before .before .before .before .before .before .front-of2 .result; counter = c .before .before .before .before .before .before .before .before .before .before .before .before .before .before .before .before .args .g .counter }
 
--- src/generator.rt:88:55
-front-of-requires-2 : tie.Need-front-of-requires-2
-front-of-requires-2 c κs = search needs
+  K-size : length (c .before .before .before .before .before .before .before .before .before .before .before .front-of .result) ≡ 32
+  K-size = omega arith
 
--- src/generator.rt:88:9
-refreshed-requires : tie.Need-refreshed-requires
-refreshed-requires c κs = search needs
+  last-is : updatedOf (c .update-all .result) ≡ update sha256 (c .before .before .before .before .before .before .before .before .before .before .before .before .before .before .before .before .args .additional .now) (keyed (c .before .before .before .before .before .before .before .before .before .refreshed .result .key) (c .before .before .before .before .before .output-filled .result .v))
+  last-is =
+      c .update-all .ensures ∙
+      ap (λ d. update sha256 d (keyed (c .before .before .before .before .before .before .before .before .before .refreshed .result .key) (c .before .before .before .before .before .output-filled .result .v))) (append-nil (c .before .before .before .before .before .before .before .before .before .before .before .before .before .before .before .before .args .additional .now))
 
--- src/generator.rt:91:9
-output-filled-requires : tie.Need-output-filled-requires
-output-filled-requires c κs = search needs
+  few : c .before .before .before .before .before .before .before .before .before .refreshed .result .blocks + c .before .before .before .before .before .output-filled .result .blocks + c .update-all .result .blocks ≤ 8288
+  few =
+      few-hmac state _ (c .before .before .before .before .before .before .before .before .before .before .before .before .before .before .before .before .args .additional .now) (c .before .before .before .before .before .before .before .before .before .refreshed .result) (c .update-all .result) (c .before .before .before .before .before .output-filled .result) _
+      (omega arith) (c .before .before .before .before .before .before .before .before .before .refreshed .ensures) (c .before .before .before .before .before .output-filled .ensures) last-is (omega arith) (c .before .before .before .before .before .before .before .before .before .before .before .before .before .before .before .before .pre .0) (c .before .before .before .before .before .before .before .before .before .before .before .before .before .before .before .before .pre .1)
 
--- src/generator.rt:93:9
-slice-aggregate-none : tie.Need-slice-aggregate-none
-slice-aggregate-none c = search needs
-
--- src/generator.rt:94:9
-update-all-requires : tie.Need-update-all-requires
-update-all-requires c κs = search needs
-
--- src/generator.rt:95:48
 add-with-blocks : tie.Need-add-with-blocks
-add-with-blocks c = ?
+add-with-blocks c = record { fits = omega (arith, few (c .before .before)) }
 
--- src/generator.rt:95:9
 with-blocks-requires : tie.Need-with-blocks-requires
-with-blocks-requires c κs = ?
+with-blocks-requires c κs = omega (arith, few (c .before .before))
 
--- src/generator.rt:96:26
 add-hmac-served : tie.Need-add-hmac-served
-add-hmac-served c = ?
+add-hmac-served c = record { fits = omega (arith, c .before .before .before .before .before .before .before .before .before .before .before .before .before .before .before .before .before .before .before .before .pre) }
 
--- src/generator.rt:96:5
-hmac-served-requires : tie.Need-hmac-served-requires
-hmac-served-requires c κs = search needs
-
--- src/generator.rt:82:1
-same-length : tie.Need-same-length
-same-length c = search needs
-
--- src/generator.rt:82:1
 returns : tie.Need-returns
-returns c = ?
+unfolding stateOf keptHmac
+returns c =
+    let t = c .before .before .before .before .before in
+    let all = c .before .before .with-blocks in (
+      rw (← t .before .before .before .before .before .before .before .before .before .before .before .front-of .ensures, ← t .before .before .before .before .before .before .before .before .before .before .front-of2 .ensures)
+          (served-hmac (state t) _ _ _ _ _ _ (K-size t) (t .before .before .before .before .before .before .before .before .before .refreshed .ensures) (t .before .before .before .before .before .output-filled .ensures) (last-is t)
+          (c .hmac-served .result) (all .result) (all .ensures) (c .hmac-served .ensures)),
+      omega (arith, ap (λ s. s .blocks) (c .hmac-served .ensures), ap (λ u. u .blocks) (all .ensures), few t),
+    )
 
 pub hmac-drawn-spec : {M : Type 1} → statement M
-hmac-drawn-spec =
-    tie.close
-    (tie.spec
-    front-of-requires
-    front-of-requires-2
-    refreshed-requires
-    output-filled-requires
-    slice-aggregate-none
-    update-all-requires
-    add-with-blocks
-    with-blocks-requires
-    add-hmac-served
-    hmac-served-requires
-    same-length
-    returns)
+hmac-drawn-spec = tie.close (tie.spec (λ c κs. search needs) (λ c κs. search needs) (λ c κs. search needs) (λ c κs. search needs) (λ c. search needs) (λ c κs. search needs) add-with-blocks with-blocks-requires add-hmac-served (λ c κs. search needs) (λ c. search needs) returns)

@@ -1,43 +1,41 @@
+-- An update of the generator's own Key and V. Assumes nothing.
+use Prim.Native.Nat.{_≤_}
+use mathlib.Core.Path.{_≡_, sym, ap, subst, _∙_}
+use mathlib.Core.List.{_++_, append-nil}
+use native.Mathlib.Nat.{add-zero, zero-add}
+use native.Mathlib.Omega.{arith}
+use lib.ListN.{length}
+use Rattle.standard.specs.State.{State}
+use Rattle.standard.specs.HmacDrbg.{reseed, update}
+use Rattle.standard.specs.Functions.{HMAC-DRBG, reseeding}
+use Rattle.standard.specs.Sha256.{sha256}
+use Rattle.standard.proofs.Bound.{bounded}
+use Rattle.drbg.specs.Keys.{keyed, updatedOf}
+use Rattle.drbg.specs.Generator.{served, stateOf}
+use Rattle.drbg.proofs.Standing.{kept-update, taken-ready}
 use borrow.Author.Needs.{needs}
 use Rattle.drbg.proofs.generator.hmac_reseeded.Statement.{statement}
 use Rattle.drbg.proofs.generator.hmac_reseeded.Tie as tie
-use Rattle.drbg.proofs.generator.hmac_reseeded.Reads as reads
-use Rattle.drbg.proofs.generator.hmac_reseeded.Lts as lts
-use Rattle.drbg.proofs.generator.front_of.Reads as front-of-reads
-use Rattle.drbg.proofs.generator.hmac_served.Reads as hmac-served-reads
-use Rattle.drbg.proofs.hmac_drbg.update_all.Reads as update-all-reads
 
--- src/generator.rt:75:9
-slice-aggregate-none : tie.Need-slice-aggregate-none
-slice-aggregate-none c = search needs
-
--- src/generator.rt:77:31
-front-of-requires : tie.Need-front-of-requires
-front-of-requires c κs = search needs
-
--- src/generator.rt:77:48
-front-of-requires-2 : tie.Need-front-of-requires-2
-front-of-requires-2 c κs = search needs
-
--- src/generator.rt:77:9
-update-all-requires : tie.Need-update-all-requires
-update-all-requires c κs = search needs
-
--- src/generator.rt:76:5
-hmac-served-requires : tie.Need-hmac-served-requires
-hmac-served-requires c κs = search needs
-
--- src/generator.rt:69:1
 returns : tie.Need-returns
-returns c = ?
+unfolding reseed served stateOf
+returns c =
+    let a = c .before .before .before .before .before .before .before .before .before .args in
+    let first = c .before .before .before .front-of in
+    let second = c .before .before .front-of2 in
+    let size : length (first .result) ≡ 32 = omega arith in
+    let size₂ : length (second .result) ≡ 32 = omega arith in
+    let state : State = record { first = first .result; second = second .result; counter = a .g .counter } in
+    let updated : updatedOf (c .before .update-all .result) ≡ update sha256 (a .entropy .now ++ a .additional .now) (keyed (first .result) (second .result)) =
+    c .before .update-all .ensures ∙
+    ap (λ d. update sha256 (a .entropy .now ++ d) (keyed (first .result) (second .result))) (append-nil (a .additional .now)) in
+    let is : c .hmac-served .result ≡ served (reseeding sha256 HMAC-DRBG state (a .entropy .now) (a .additional .now)) =
+    c .hmac-served .ensures ∙
+    kept-update _ _ (c .before .update-all .result) 1 updated ∙
+    sym (rw (taken-ready state size, zero-add, add-zero)) in (
+      is ∙ rw (← first .ensures, ← second .ensures),
+      rw is (bounded HMAC-DRBG .reseeding state (a .entropy .now) (a .additional .now) (record { first = size; second = size₂ }) (omega (arith, c .before .before .before .before .before .before .before .before .before .pre)) (omega (arith, c .before .before .before .before .before .before .before .before .before .pre))),
+    )
 
 pub hmac-reseeded-spec : {M : Type 1} → statement M
-hmac-reseeded-spec =
-    tie.close
-    (tie.spec
-    slice-aggregate-none
-    front-of-requires
-    front-of-requires-2
-    update-all-requires
-    hmac-served-requires
-    returns)
+hmac-reseeded-spec = tie.close (tie.spec (λ c. search needs) (λ c κs. search needs) (λ c κs. search needs) (λ c κs. search needs) (λ c κs. search needs) returns)

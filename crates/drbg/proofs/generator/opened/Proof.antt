@@ -1,26 +1,15 @@
+-- One mechanism or the other. Assumes nothing.
+use mathlib.Core.Path.{sym, _∙_}
+use borrow.Author.Tests.{eq-eqb, ne-eqb}
 use borrow.Author.Needs.{needs}
 use Rattle.drbg.proofs.generator.opened.Statement.{statement}
 use Rattle.drbg.proofs.generator.opened.Tie as tie
-use Rattle.drbg.proofs.generator.opened.Reads as reads
-use Rattle.drbg.proofs.generator.opened.Lts as lts
-use Rattle.drbg.proofs.generator.hash_opened.Reads as hash-opened-reads
-use Rattle.drbg.proofs.generator.hmac_opened.Reads as hmac-opened-reads
 
--- src/generator.rt:158:9
-hmac-opened-requires : tie.Need-hmac-opened-requires
-hmac-opened-requires c κs = search needs
-
--- src/generator.rt:158:9
 returns : tie.Need-returns
-returns c = ?
+returns c = c .hmac-opened .ensures ∙ sym (rw (eq-eqb (c .before .before .before .before .before .args .mechanism) 1 (c .before .if1 .taken)))
 
--- src/generator.rt:160:5
-hash-opened-requires : tie.Need-hash-opened-requires
-hash-opened-requires c κs = search needs
-
--- src/generator.rt:148:1
 returns-2 : tie.Need-returns-2
-returns-2 c = ?
+returns-2 c = c .hash-opened .ensures ∙ sym (rw (ne-eqb (c .before .before .before .before .before .args .mechanism) 1 (c .before .if1 .left)))
 
 pub opened-spec : {M : Type 1} → statement M
-opened-spec = tie.close (tie.spec hmac-opened-requires returns hash-opened-requires returns-2)
+opened-spec = tie.close (tie.spec (λ c κs. search needs) returns (λ c κs. search needs) returns-2)

@@ -1,27 +1,19 @@
+-- One mechanism or the other. Assumes nothing.
+use mathlib.Core.Path.{sym, _∙_}
+use borrow.Author.Tests.{eq-eqb, ne-eqb}
 use borrow.Author.Needs.{needs}
 use Rattle.drbg.proofs.generator.reseeded.Statement.{statement}
 use Rattle.drbg.proofs.generator.reseeded.Tie as tie
-use Rattle.drbg.proofs.generator.reseeded.Reads as reads
-use Rattle.drbg.proofs.generator.reseeded.Lts as lts
-use Rattle.drbg.proofs.generator.hash_reseeded.Reads as hash-reseeded-reads
-use Rattle.drbg.proofs.generator.hmac_reseeded.Reads as hmac-reseeded-reads
 
--- src/generator.rt:169:9
-hmac-reseeded-requires : tie.Need-hmac-reseeded-requires
-hmac-reseeded-requires c κs = search needs
-
--- src/generator.rt:169:9
 returns : tie.Need-returns
-returns c = ?
+returns c =
+    let r = c .hmac-reseeded .ensures in
+    (r .0 ∙ sym (rw (eq-eqb (c .before .before .before .before .args .mechanism) 1 (c .before .if1 .taken))), r .1)
 
--- src/generator.rt:171:5
-hash-reseeded-requires : tie.Need-hash-reseeded-requires
-hash-reseeded-requires c κs = search needs
-
--- src/generator.rt:164:1
 returns-2 : tie.Need-returns-2
-returns-2 c = ?
+returns-2 c =
+    let r = c .hash-reseeded .ensures in
+    (r .0 ∙ sym (rw (ne-eqb (c .before .before .before .before .args .mechanism) 1 (c .before .if1 .left))), r .1)
 
 pub reseeded-spec : {M : Type 1} → statement M
-reseeded-spec =
-    tie.close (tie.spec hmac-reseeded-requires returns hash-reseeded-requires returns-2)
+reseeded-spec = tie.close (tie.spec (λ c κs. search needs) returns (λ c κs. search needs) returns-2)
