@@ -5,7 +5,7 @@ use sha256::running;
 use sha256::running::Digest;
 use sha256::running::Running;
 ghost use mathlib.Core.Path.{_≡_};
-ghost use Prim.Native.Nat.{_<_, min};
+ghost use Prim.Native.Nat.{_<_};
 ghost use Rattle.standard.specs.Hash.{hash};
 ghost use Rattle.standard.specs.Sha256.{sha256};
 ghost use Rattle.sha256.specs.Values.{digestOf};
@@ -32,12 +32,6 @@ fn print_line(name: &[u8], size: usize, d: Digest) {
     io::write_all(STDOUT_FILENO, b"\n");
 }
 
-fn least(a: usize, b: usize) -> usize
-    ensures { λ r. ⌜ r ≡ min a b ⌝ }
-{
-    if a < b { a } else { b }
-}
-
 // The hash of s, fed in pieces of `size` bytes.
 fn in_pieces(s: &[u8], size: usize) -> Digest
     requires { ⌜ 0 < size ⌝ }
@@ -46,7 +40,7 @@ fn in_pieces(s: &[u8], size: usize) -> Digest
     let mut h = Running::new();
     let mut at = 0;
     while at < s.len() {
-        let n = least(size, s.len() - at);
+        let n = running::least(size, s.len() - at);
         let next = h.update(&s[at..at + n]);
         h = next;
         at += n;
