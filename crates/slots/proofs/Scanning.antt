@@ -1,0 +1,66 @@
+-- The scan of a table for soundness: a counter that is read before 1 is added, a slot's fields in two parts, slot after slot.
+-- Assumes nothing.
+use mathlib.Core.Path.{_≡_, refl, sym, ap, ap₂, _∙_}
+use mathlib.Core.Bool.{Bool, true, false, _&&_, _||_}
+use Prim.Native.Nat.{ℕ, _+_, _%_, _^_, _<_}
+use native.Mathlib.Decide.{decLt}
+use native.Mathlib.Numerals.{add-one}
+use native.Mathlib.Omega.{arith}
+use borrow.Author.Tests.{lt-leb}
+use lib.Dec.{eqb, leb, leb·suc-suc}
+use lib.ListN.{length, take, drop, length-drop}
+use lib.Seq.{take-all}
+use Rattle.slots.specs.Layout.{slotAt, lastSerial}
+use Rattle.slots.specs.Sound.{allZero, between, freeNumbers, usedNumbers, freeSound, usedSound, soundSlot, soundSlots}
+use Rattle.slots.specs.declared.slot.Slot.{Slot}
+use Rattle.slots.specs.declared.layout.Table.{Table}
+use Rattle.slots.proofs.Zeros.{all-zero-split}
+
+-- a counter against interval + 1, by its predecessor against the interval
+pub counter-below : (before counter interval : ℕ) → before < 2 ^ 64 → (before + 1) % 2 ^ 64 ≡ counter
+    → (leb 1 counter && leb before interval) ≡ between 1 counter (interval + 1)
+counter-below before counter interval fits steps = go (decLt 0 counter)
+  where
+    go : Dec (0 < counter) → (leb 1 counter && leb before interval) ≡ between 1 counter (interval + 1)
+    go (yes some) =
+        let same : counter ≡ before + 1 = omega arith in
+        ap (λ b. leb 1 counter && b) (sym (leb·suc-suc before interval) ∙ rw (same, add-one, add-one))
+    go (no none) =
+        let zero : counter < 1 = omega (arith, none) in
+        rw (lt-leb 1 counter zero)
+
+-- the front 32 bytes and the rest of both fields
+join-free : (n f g r q : Bool) → (n && (f && g) && (r && q)) ≡ (n && (f && r) && (g && q))
+join-free false f g r q = refl
+join-free true false g r q = refl
+join-free true true false false q = refl
+join-free true true false true q = refl
+join-free true true true r q = refl
+
+join-used : (n m r q : Bool) → (n && (m || r && q)) ≡ (n && (m || r) && (m || q))
+join-used false m r q = refl
+join-used true true r q = refl
+join-used true false r q = refl
+
+module _ (last : ℕ) (s : Slot) (first : length (s .first) ≡ 55) (second : length (s .second) ≡ 55) where
+  pub slot-sound-by : (free used f g r q : Bool)
+      → free ≡ freeNumbers (s .mechanism) (s .strength) (s .interval) (s .counter) (s .fresh) (s .serial)
+      → used ≡ usedNumbers (s .mechanism) (s .strength) (s .interval) (s .counter) (s .fresh) (s .serial) last
+      → f ≡ allZero (take 32 (s .first)) → g ≡ allZero (take 32 (s .second))
+      → r ≡ allZero (take 23 (drop 32 (s .first))) → q ≡ allZero (take 23 (drop 32 (s .second)))
+      → (free && (f && g) && (r && q) || used && (eqb (s .mechanism) 2 || r && q)) ≡ soundSlot last s
+  unfolding soundSlot freeSound usedSound
+  slot-sound-by free used f g r q is-free is-used is-f is-g is-r is-q =
+      let r-all : take 23 (drop 32 (s .first)) ≡ drop 32 (s .first) = take-all 23 _ (rw length-drop (omega arith)) in
+      let q-all : take 23 (drop 32 (s .second)) ≡ drop 32 (s .second) = take-all 23 _ (rw length-drop (omega arith)) in
+      ap₂ _||_ (join-free free f g r q) (join-used used (eqb (s .mechanism) 2) r q) ∙
+      rw (is-free, is-used, is-f, is-g, is-r, is-q, r-all, q-all, first, second)
+      (rw (all-zero-split 32 (s .first), all-zero-split 32 (s .second)))
+
+module _ (t : Table) where
+  -- one slot more, read with the last serial
+  pub sound-more : (i last : ℕ) (s : Slot) (all : Bool) → all ≡ soundSlots t i → s ≡ slotAt t i → last ≡ lastSerial t
+      → (all && soundSlot last s) ≡ soundSlots t (i + 1)
+  unfolding soundSlots
+  sound-more i last s all so-far here serial =
+      ap₂ _&&_ so-far (ap₂ soundSlot serial here) ∙ ap (soundSlots t) (sym (add-one i))

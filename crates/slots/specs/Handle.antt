@@ -1,0 +1,36 @@
+-- Handles and the lowest free slot. Handle = 16 × serial + slot.
+use Prim.Native.Nat.{ℕ, zero, suc, _+_, _*_, _/_, _%_}
+use mathlib.Core.Bool.{Bool, true, false, not, _&&_, cond}
+use lib.Dec.{eqb}
+use Rattle.slots.specs.Layout.{slotAt}
+use Rattle.slots.specs.declared.slot.Slot.{Slot}
+use Rattle.slots.specs.declared.layout.Table.{Table}
+use Rattle.slots.specs.declared.handle.Found.{Found}
+use Rattle.slots.specs.declared.handle.Found.the-variants.{At, Nothing}
+
+abbrev pub handleOf : (serial i : ℕ) → ℕ
+handleOf serial i = 16 * serial + i
+
+abbrev pub inUse : Slot → Bool
+inUse s = not (eqb (s .mechanism) 0)
+
+-- the slot that a handle speaks of
+abbrev pub slotOf : Table → (handle : ℕ) → Slot
+slotOf t handle = slotAt t (handle % 16)
+
+-- a handle names a generator when its slot is in use with its serial
+unfoldable pub names : Table → (handle : ℕ) → Bool
+names t handle = inUse (slotOf t handle) && eqb (slotOf t handle .serial) (handle / 16)
+
+unfoldable pub lookUp : Table → (handle : ℕ) → Found
+lookUp t handle = cond (names t handle) (At (handle % 16)) Nothing
+
+-- the cases of a look-up: the slot of the generator that the handle names; or nothing, which is answer 2
+abbrev pub named : Found → Bool
+named (At i) = true
+named Nothing = false
+
+-- the lowest free one of the n slots from `from` on, or the number past them
+unfoldable pub lowestFree : Table → (from n : ℕ) → ℕ
+lowestFree t from zero = from
+lowestFree t from (suc n) = cond (inUse (slotAt t from)) (lowestFree t (from + 1) n) from

@@ -1,0 +1,39 @@
+-- The table's slots and its last serial. Definitions and proofs reach them through these alone, so that a change of the layout
+-- moves a handful of laws.
+use Prim.Native.Nat.{ℕ}
+use mathlib.Core.Path.{_≡_}
+use mathlib.Core.List.{List, []}
+use lib.ListN.{getD, set, replicate}
+use Rattle.slots.specs.declared.slot.Slot.{Slot}
+use Rattle.slots.specs.declared.layout.Table.{Table}
+
+-- every number zero, with this for both fields
+abbrev pub zeroSlot : List ℕ → Slot
+zeroSlot field =
+    record { mechanism = 0; strength = 0; interval = 0; counter = 0; fresh = 0; serial = 0; first = field; second = field }
+
+abbrev pub freeSlot : Slot
+freeSlot = zeroSlot (replicate 55 0)
+
+-- what stands past the last slot: of no table that the code can hold
+abbrev pub noSlot : Slot
+noSlot = zeroSlot []
+
+unfoldable pub slotAt : Table → ℕ → Slot
+slotAt t i = getD (t .slots) i noSlot
+
+-- these are the table's slots, in their order
+pub record Lists (slots : List Slot) (t : Table) : Type 0 where
+  pub at : (i : ℕ) → getD slots i noSlot ≡ slotAt t i
+
+unfoldable pub withSlot : Table → ℕ → Slot → Table
+withSlot t i s = record { slots = set (t .slots) i s; last = t .last }
+
+unfoldable pub lastSerial : Table → ℕ
+lastSerial t = t .last
+
+unfoldable pub withLastSerial : Table → ℕ → Table
+withLastSerial t serial = record { slots = t .slots; last = serial }
+
+unfoldable pub freshTable : Table
+freshTable = record { slots = replicate 16 freeSlot; last = 0 }

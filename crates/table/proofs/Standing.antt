@@ -1,0 +1,136 @@
+-- A state of the right size stands in a slot as document 01 has it, and a used slot holds a state of the right size.
+-- Assumes of a served state that its strings have the mechanism's length (standard, `sized-opening` and its kin), and of its
+-- counter what each law says.
+use mathlib.Core.Path.{_≡_, refl, sym, ap, subst, _∙_}
+use mathlib.Core.Bool.{Bool, true, false, _||_, cond}
+use mathlib.Core.Logic.{_⊎_, inl, inr}
+use mathlib.Core.List.{List}
+use Prim.Native.Nat.{ℕ, _+_, _-_, _%_, _^_, _≤_}
+use native.Mathlib.Nat.{le-refl, le-add-right}
+use native.Mathlib.Omega.{arith}
+use lib.Dec.{eqb, leb, lit≤}
+use lib.ListN.{length, drop, replicate, length-append, length-replicate}
+use lib.Seq.{length-take-le, drop-at}
+use Rattle.standard.specs.State.{State}
+use Rattle.standard.specs.Sha256.{sha256}
+use Rattle.standard.specs.Functions.{Mechanism, HMAC-DRBG, Hash-DRBG}
+use Rattle.standard.proofs.Lengths.{Sized, stateBytes}
+use Rattle.drbg.specs.Generator.{mechanismOf, stateOf, field, standing}
+use Rattle.drbg.specs.declared.generator.Generator.{Generator}
+use Rattle.slots.specs.Layout.{freeSlot, withSlot, lastSerial, withLastSerial}
+use Rattle.slots.specs.Sound.{allZero, sound}
+use Rattle.slots.specs.Handle.{slotOf, names}
+use Rattle.slots.specs.declared.slot.Slot.{Slot}
+use Rattle.slots.specs.declared.layout.Table.{Table}
+use Rattle.slots.proofs.Flags.{or-first, or-second}
+use Rattle.slots.proofs.Zeros.{all-zero-replicate}
+use Rattle.slots.proofs.Soundness.{Field, Used, used-sound, free-sound, sound-withSlot, sound-opened}
+use Rattle.slots.proofs.Handles.{sound-named}
+use Rattle.table.specs.Reasons.{rounded}
+use Rattle.table.specs.Answers.{generatorOf, withGenerator, newSlot}
+use Rattle.table.specs.Served.{mechanismIn, stateIn}
+
+length-field : (s : List ℕ) → length s ≤ 55 → length (field s) ≡ 55
+unfolding field
+length-field s h = simp (length-append, length-replicate) (omega arith)
+
+rest-field : (s : List ℕ) → length s ≡ 32 → allZero (drop 32 (field s)) ≡ true
+unfolding field
+rest-field s h = ap allZero (drop-at s (replicate (55 - length s) 0) 32 h) ∙ all-zero-replicate (55 - length s)
+
+-- a string of the mechanism's length as a field
+pub field-standing : (mechanism : ℕ) (s : List ℕ) → (mechanism ≡ 1) ⊎ (mechanism ≡ 2) → length s ≡ stateBytes sha256 (mechanismOf mechanism)
+    → Field mechanism (field s)
+field-standing mechanism s (inl one) h =
+    let size : length s ≡ 32 = rw one at h in
+    record { bytes = length-field s (omega arith); rest = or-second (eqb mechanism 2) (rest-field s size) }
+field-standing mechanism s (inr two) h =
+    let size : length s ≡ 55 = rw two at h in
+    record { bytes = length-field s (omega arith); rest = or-first _ (ap (λ m. eqb m 2) two) }
+
+-- a generator's successor keeps its slot sound
+pub used-standing : (last : ℕ) (s : Slot) (st : State) → Used last s → Sized (stateBytes sha256 (mechanismIn s)) st
+    → 1 ≤ st .counter → st .counter ≤ s .interval + 1 → Used last (withGenerator s (standing st))
+unfolding standing
+used-standing last s st u sized some most =
+    record {
+      mechanism = u .mechanism;
+      strength = u .strength;
+      interval-some = u .interval-some;
+      interval-most = u .interval-most;
+      counter-some = some;
+      counter-most = most;
+      fresh = u .fresh;
+      serial-some = u .serial-some;
+      serial-most = u .serial-most;
+      first = field-standing (s .mechanism) (st .first) (u .mechanism) (sized .first);
+      second = field-standing (s .mechanism) (st .second) (u .mechanism) (sized .second);
+    }
+
+-- the state in a used slot
+sized-state : (m : Mechanism) (g : Generator) → length (g .first) ≡ 55 → length (g .second) ≡ 55 → Sized (stateBytes sha256 m) (stateOf m g)
+unfolding stateOf
+sized-state HMAC-DRBG g a b = record { first = length-take-le 32 (g .first) (omega arith); second = length-take-le 32 (g .second) (omega arith) }
+sized-state Hash-DRBG g a b = record { first = a; second = b }
+
+pub sized-in : (last : ℕ) (s : Slot) → Used last s → Sized (stateBytes sha256 (mechanismIn s)) (stateIn s)
+sized-in last s u = sized-state (mechanismIn s) (generatorOf s) (u .first .bytes) (u .second .bytes)
+
+one-of-four : (strength : ℕ) →
+    let r = rounded strength in
+    (eqb r 112 || eqb r 128 || eqb r 192 || eqb r 256) ≡ true
+unfolding rounded
+one-of-four strength = go (leb strength 112) (leb strength 128) (leb strength 192)
+  where
+    go : (a b c : Bool) →
+        let r : ℕ = cond a 112 (cond b 128 (cond c 192 256)) in
+        (eqb r 112 || eqb r 128 || eqb r 192 || eqb r 256) ≡ true
+    go true b c = refl
+    go false true c = refl
+    go false false true = refl
+    go false false false = refl
+
+flag-most : (fresh : Bool) → cond fresh 1 0 ≤ 1
+flag-most true = lit≤ tt
+flag-most false = lit≤ tt
+
+-- a new generator's slot
+pub used-new : (mechanism strength interval : ℕ) (fresh : Bool) (serial : ℕ) (st : State) → (mechanism ≡ 1) ⊎ (mechanism ≡ 2)
+    → 1 ≤ interval → interval ≤ 2 ^ 48 → 1 ≤ serial → Sized (stateBytes sha256 (mechanismOf mechanism)) st → st .counter ≡ 1
+    → Used serial (newSlot mechanism (rounded strength) interval fresh serial (standing st))
+unfolding standing
+used-new mechanism strength interval fresh serial st kind some most next sized one =
+    record {
+      mechanism = kind;
+      strength = one-of-four strength;
+      interval-some = some;
+      interval-most = most;
+      counter-some = omega (arith, one);
+      counter-most = omega (arith, one);
+      fresh = flag-most fresh;
+      serial-some = next;
+      serial-most = le-refl serial;
+      first = field-standing mechanism (st .first) kind (sized .first);
+      second = field-standing mechanism (st .second) kind (sized .second);
+    }
+
+-- so a served call keeps the table sound
+module _ (t : Table) (whole : sound t ≡ true) where
+  pub sound-stepped : (handle : ℕ) (st : State) → names t handle ≡ true → Sized (stateBytes sha256 (mechanismIn (slotOf t handle))) st
+      → 1 ≤ st .counter → st .counter ≤ slotOf t handle .interval + 1
+      → sound (withSlot t (handle % 16) (withGenerator (slotOf t handle) (standing st))) ≡ true
+  sound-stepped handle st named sized some most =
+      sound-withSlot t (handle % 16) _ whole
+      (used-sound (lastSerial t) _ (used-standing (lastSerial t) (slotOf t handle) st (sound-named t handle whole named) sized some most))
+
+  pub sound-installed : (i mechanism strength interval : ℕ) (fresh : Bool) (st : State) → (mechanism ≡ 1) ⊎ (mechanism ≡ 2)
+      → 1 ≤ interval → interval ≤ 2 ^ 48 → Sized (stateBytes sha256 (mechanismOf mechanism)) st → st .counter ≡ 1 →
+      let serial = lastSerial t + 1 in
+      sound (withLastSerial (withSlot t i (newSlot mechanism (rounded strength) interval fresh serial (standing st))) serial) ≡ true
+  sound-installed i mechanism strength interval fresh st kind some most sized one =
+      sound-opened t i (lastSerial t + 1) _ whole (le-add-right (lastSerial t) 1)
+      (used-sound (lastSerial t + 1) _
+      (used-new mechanism strength interval fresh (lastSerial t + 1) st kind some most (omega arith) sized one))
+
+  pub sound-closed : (i : ℕ) → sound (withSlot t i freeSlot) ≡ true
+  sound-closed i = sound-withSlot t i freeSlot whole (free-sound (lastSerial t))

@@ -1,0 +1,26 @@
+-- In turn. Assumes nothing.
+use mathlib.Core.Path.{refl}
+use Rattle.table.specs.FreshDrawing.{freshDrawReasons}
+use Rattle.table.proofs.FirstReason.{first-in-turn}
+use borrow.Author.Needs.{needs}
+use Rattle.table.proofs.fresh_drawing.reason.Statement.{statement}
+use Rattle.table.proofs.fresh_drawing.reason.Tie as tie
+
+returns : tie.Need-returns
+unfolding freshDrawReasons
+returns c =
+    rw (
+      c .or-else5 .ensures,
+      c .before .or-else4 .ensures,
+      c .before .before .or-else3 .ensures,
+      c .before .before .before .or-else2 .ensures,
+      c .before .before .before .before .or-else .ensures,
+    )
+    (first-in-turn _ refl)
+
+pub reason-spec : {M : Type 1} → statement M
+reason-spec =
+    tie.close
+    (tie.spec
+    (λ c. search needs) (λ c κs. search needs) (λ c κs. search needs) (λ c κs. search needs) (λ c κs. search needs)
+    (λ c κs. search needs) returns)

@@ -1,0 +1,19 @@
+-- In turn. Assumes nothing.
+use mathlib.Core.Path.{refl}
+use Rattle.table.specs.Reseeding.{reseedReasons}
+use Rattle.table.proofs.FirstReason.{first-in-turn}
+use borrow.Author.Needs.{needs}
+use Rattle.table.proofs.reseeding.reason.Statement.{statement}
+use Rattle.table.proofs.reseeding.reason.Tie as tie
+
+returns : tie.Need-returns
+unfolding reseedReasons
+returns c =
+    rw (
+      c .or-else2 .ensures,
+      c .before .or-else .ensures,
+    )
+    (first-in-turn _ refl)
+
+pub reason-spec : {M : Type 1} → statement M
+reason-spec = tie.close (tie.spec (λ c. search needs) (λ c κs. search needs) (λ c κs. search needs) returns)

@@ -1,0 +1,74 @@
+-- Refused at the scan, at the look-up, by a reason, or served. Assumes nothing.
+use mathlib.Core.Path.{_≡_, _∙_}
+use Rattle.table.proofs.Outcomes.{Named, names-slot, unsound, sound-so, unnamed, below}
+use Rattle.table.proofs.Exits.{reseed-unsound, reseed-unnamed, reseed-refused, reseed-served, reseed-allowed}
+use borrow.Author.Needs.{needs}
+use Rattle.table.proofs.reseeding.reseed.Statement.{statement}
+use Rattle.table.proofs.reseeding.reseed.Tie as tie
+
+names-it : (c : tie.After-known-told) →
+    let a = c .before .before .before .before .before .before .before .before .args in
+    Named (a .t) (a .handle) (c .before .i .given .0 .0)
+names-it c =
+    names-slot _ _ _ (c .before .before .before .before .before .is-sound .ensures) (c .before .before .before .before .if1 .left)
+    (c .before .before .before .look-up .ensures) (c .before .i .given .1)
+
+returns : tie.Need-returns
+returns c =
+    let a = c .before .before .before .before .before .args in
+    c .refused .ensures ∙
+    reseed-unsound (a .t) (a .handle) (a .entropy .now) (a .additional .now)
+    (unsound (a .t) (c .before .before .is-sound .ensures) (c .before .if1 .taken))
+
+returns-2 : tie.Need-returns-2
+returns-2 c =
+    let a = c .before .before .before .before .before .before .before .before .args in
+    c .refused2 .ensures ∙
+    reseed-unnamed (a .t) (a .handle) (a .entropy .now) (a .additional .now)
+    (sound-so (a .t) (c .before .before .before .before .before .is-sound .ensures) (c .before .before .before .before .if1 .left))
+    (unnamed (a .t) (a .handle) (c .before .before .before .look-up .ensures) (c .before .enum-told .given .1))
+
+slot-at-requires : tie.Need-slot-at-requires
+slot-at-requires c κs = below (names-it c)
+
+returns-3 : tie.Need-returns-3
+returns-3 c =
+    let told = c .before .before .before .before in
+    let a = told .before .before .before .before .before .before .before .before .args in
+    c .refused3 .ensures ∙
+    reseed-refused (a .t) (a .handle) (a .entropy .now) (a .additional .now)
+    (names-it told) (c .before .before .before .slot-at .ensures) (c .before .before .reason .ensures) (c .before .if2 .taken)
+
+reseeded-requires : tie.Need-reseeded-requires
+reseeded-requires c κs =
+    let made = c in
+    let told = made .before .before .before .before in
+    let a = told .before .before .before .before .before .before .before .before .args in
+    let may =
+    reseed-allowed (a .t) (a .handle) (a .entropy .now) (a .additional .now)
+    (names-it told) (made .before .before .before .slot-at .ensures) (made .before .before .reason .ensures) (made .before .if2 .left) in
+    (may .entropy-most, may .additional-most)
+
+stepped-requires : tie.Need-stepped-requires
+stepped-requires c κs =
+    let told = c .before .before .before .before .before in
+    (below (names-it told), c .before .before .before .before .slot-at .ensures)
+
+returns-4 : tie.Need-returns-4
+returns-4 c =
+    let served = c .before in
+    let made = served .before in
+    let told = made .before .before .before .before in
+    let a = told .before .before .before .before .before .before .before .before .args in
+    c .stepped .ensures ∙
+    reseed-served (a .t) (a .handle) (a .entropy .now) (a .additional .now)
+    (names-it told) (made .before .before .before .slot-at .ensures) (made .before .before .reason .ensures) (made .before .if2 .left)
+    (rw (made .generator-of .ensures) at (served .reseeded .ensures .0))
+
+pub reseed-spec : {M : Type 1} → statement M
+reseed-spec =
+    tie.close
+    (tie.spec
+    (λ c κs. search needs) (λ c κs. search needs) returns (λ c κs. search needs) (λ c. search needs) (λ c. search needs)
+    (λ c κs. search needs) returns-2 slot-at-requires (λ c κs. search needs) (λ c κs. search needs) returns-3 (λ c κs. search needs)
+    reseeded-requires stepped-requires returns-4)

@@ -1,0 +1,75 @@
+-- Answers, and the generator in a slot.
+use Prim.Native.Nat.{ℕ}
+use mathlib.Core.Bool.{Bool, cond}
+use mathlib.Core.List.{List}
+use lib.Dec.{eqb}
+use Rattle.drbg.specs.Generator.{Filled}
+use Rattle.drbg.specs.declared.generator.Generator.{Generator}
+use Rattle.drbg.specs.declared.generator.Served.{Served}
+use Rattle.slots.specs.Layout.{slotAt, withSlot, withLastSerial}
+use Rattle.slots.specs.Handle.{handleOf}
+use Rattle.slots.specs.declared.slot.Slot.{Slot}
+use Rattle.slots.specs.declared.layout.Table.{Table}
+use Rattle.table.specs.Reasons.{Reasons, firstOf}
+use Rattle.table.specs.declared.answers.Answer.{Answer}
+
+-- 1 to 14: the table comes back equal, count and value are 0
+abbrev pub refused : Table → (number : ℕ) → Answer
+refused t number = record { number = number; table = t; blocks = 0; value = 0 }
+
+abbrev pub accepted : Table → (blocks value : ℕ) → Answer
+accepted t blocks value = record { number = 0; table = t; blocks = blocks; value = value }
+
+-- the answer to a draw, and what the lent output then holds
+pub record Reply : Type 0 where
+  pub answer : Answer
+  pub output : List ℕ
+
+-- refused, the output holds its old bytes
+abbrev pub refusedDraw : Table → (out : List ℕ) (number : ℕ) → Reply
+refusedDraw t out number = record { answer = refused t number; output = out }
+
+-- the first reason that holds, or what is served where none does
+unfoldable pub decided : {A : Type 0} → Reasons → (refusal : ℕ → A) (served : A) → A
+decided reasons refusal served = cond (eqb (firstOf reasons) 0) served (refusal (firstOf reasons))
+
+-- the generator that a slot holds
+abbrev pub generatorOf : Slot → Generator
+generatorOf s = record { first = s .first; second = s .second; counter = s .counter }
+
+abbrev pub withGenerator : Slot → Generator → Slot
+withGenerator s g =
+    record {
+      mechanism = s .mechanism;
+      strength = s .strength;
+      interval = s .interval;
+      counter = g .counter;
+      fresh = s .fresh;
+      serial = s .serial;
+      first = g .first;
+      second = g .second;
+    }
+
+-- the generator in slot i has made its step
+unfoldable pub stepped : Table → (i : ℕ) → Served → Answer
+stepped t i r = accepted (withSlot t i (withGenerator (slotAt t i) (r .generator))) (r .blocks) 0
+
+abbrev pub steppedDraw : Table → (i : ℕ) → Filled → Reply
+steppedDraw t i r = record { answer = stepped t i (r .served); output = r .output }
+
+-- a new generator in slot i, with the next serial
+abbrev pub newSlot : (mechanism strength interval : ℕ) (fresh : Bool) (serial : ℕ) → Generator → Slot
+newSlot mechanism strength interval fresh serial g =
+    record {
+      mechanism = mechanism;
+      strength = strength;
+      interval = interval;
+      counter = g .counter;
+      fresh = cond fresh 1 0;
+      serial = serial;
+      first = g .first;
+      second = g .second;
+    }
+
+unfoldable pub installed : Table → (i serial : ℕ) → Slot → (blocks : ℕ) → Answer
+installed t i serial s blocks = accepted (withLastSerial (withSlot t i s) serial) blocks (handleOf serial i)
