@@ -5,7 +5,7 @@ use Prim.Native.Nat.{ℕ, _+_, _*_, _/_, _%_, _^_, _≤_}
 use native.Mathlib.Numerals.{add-one, add-two, add-three, add-four}
 use native.Mathlib.Omega.{arith}
 use lib.ListN.{length, getD, take, drop, set}
-use lib.Seq.{take-add, sets-eq, drop-at, length-take-le}
+use lib.Seq.{take-add, sets-eq, take-at, drop-at, length-take-le}
 use Rattle.standard.specs.Strings.{numberOf, bytesOf}
 use Rattle.standard.proofs.Strings.{numberOf-append, bytesOf-add, bytesOf-above}
 use Rattle.sha256.proofs.Load.{drop-more}
@@ -30,17 +30,20 @@ module _ (a b : List ℕ) (at : ℕ) (a-long : at + 5 ≤ length a) (b-long : at
       bytesOf-add at 5 ((A + B) * 1099511627776 + total) ∙
       ap₂ _++_ (ap (bytesOf at) carried) (bytesOf-above (A + B) 5 total)
 
-  -- the limbs from at + 5 on are done; this one too
-  pub limb-done : (carry total : ℕ) (s r sum : List ℕ) → total ≡ numberOf (take 5 (drop at a)) + numberOf (take 5 (drop at b)) + carry
-      → at ≤ length s → r ≡ take at s ++ (bytesOf 5 total ++ drop (at + 5) s)
-      → sum ≡ bytesOf (at + 5) (numberOf (take (at + 5) a) + numberOf (take (at + 5) b) + carry) ++ drop (at + 5) s
-      → sum ≡ bytesOf at (numberOf (take at a) + numberOf (take at b) + total / 1099511627776) ++ drop at r
-  limb-done carry total s r sum total-is long stored so-far =
+  -- the limbs of a from at + 5 on are those of the sum; this one too
+  pub limb-done : (carry total : ℕ) (r sum : List ℕ) → total ≡ numberOf (take 5 (drop at a)) + numberOf (take 5 (drop at b)) + carry
+      → r ≡ take at a ++ (bytesOf 5 total ++ drop (at + 5) a)
+      → sum ≡ bytesOf (at + 5) (numberOf (take (at + 5) a) + numberOf (take (at + 5) b) + carry) ++ drop (at + 5) a
+      → sum ≡ bytesOf at (numberOf (take at r) + numberOf (take at b) + total / 1099511627776) ++ drop at r
+  limb-done carry total r sum total-is stored so-far =
       let A : List ℕ = bytesOf at (numberOf (take at a) + numberOf (take at b) + total / 1099511627776) in
+      let size : length (take at a) ≡ at = length-take-le at a (omega arith) in
+      let before : take at r ≡ take at a = ap (take at) stored ∙ take-at (take at a) _ at size in
       so-far ∙
-      ap (λ p. p ++ drop (at + 5) s) (limb-added carry total total-is) ∙
-      append-assoc A (bytesOf 5 total) (drop (at + 5) s) ∙
-      ap (λ p. A ++ p) (sym (ap (drop at) stored ∙ drop-at (take at s) _ at (length-take-le at s long)))
+      ap (λ p. p ++ drop (at + 5) a) (limb-added carry total total-is) ∙
+      append-assoc A (bytesOf 5 total) (drop (at + 5) a) ∙
+      ap₂ (λ n p. bytesOf at (numberOf n + numberOf (take at b) + total / 1099511627776) ++ p) (sym before)
+      (sym (ap (drop at) stored ∙ drop-at (take at a) _ at size))
 
 -- a limb from its five bytes
 pub limb-read : (s : List ℕ) (at : ℕ) → at + 5 ≤ length s

@@ -12,7 +12,7 @@ ghost use mathlib.Core.List.{_∷_, _++_};
 ghost use Prim.Native.Nat.{_+_, _^_, _≤_, _<_};
 ghost use lib.ListN.{length, take};
 ghost use Rattle.standard.specs.Strings.{ceiling};
-ghost use Rattle.standard.specs.Hash.{padding, hash};
+ghost use Rattle.standard.specs.Hash.{padding, compressed, digest, hash};
 ghost use Rattle.standard.specs.HashDrbg.{seeded, stepped, refreshed, hashgen};
 ghost use Rattle.standard.specs.Sha256.{sha256};
 ghost use Rattle.drbg.specs.Keys.{costing};
@@ -66,10 +66,10 @@ fn only_block(v: [u8; 55]) -> [u8; 64]
     block
 }
 
-fn hash_of_v(v: [u8; 55]) -> [u8; 32]
-    ensures { λ r. ⌜ costing 1 r ≡ hash sha256 v ⌝ }
+// The hash of a padded message that is one block.
+fn hash_of_block(block: [u8; 64]) -> [u8; 32]
+    ensures { λ r. ⌜ r ≡ digest sha256 (compressed sha256 (sha256 .initial) block) ⌝ }
 {
-    let block = only_block(v);
     digest::bytes_of(rounds::compress(rounds::initial(), &block))
 }
 
@@ -79,12 +79,13 @@ pub fn hashgen_filled(v: [u8; 55], out: &mut [u8]) -> u64
     ensures { λ r. ⌜ costing r (now (out .exit)) ≡ hashgen sha256 (length (now (out .entry))) v ⌝ }
 {
     let mut next = v;
+    let zero = [0u8; 55];
     let mut at = 0;
     while at < out.len() {
-        let w = hash_of_v(next);
+        let block = only_block(next);
+        sums::add(&mut next, &zero, 1);
+        let w = hash_of_block(block);
         output::store(out, at, w);
-        let after = sums::plus(next, [0u8; 55], 1);
-        next = after;
         at += 32;
     }
     (at / 32) as u64

@@ -12,8 +12,8 @@ fn wide(b: u8) -> u64
     b as u64
 }
 
-fn limb(s: &[u8], at: usize) -> u64
-    requires { ⌜ at + 5 ≤ length (now s) ⌝ }
+fn limb(s: &[u8; 55], at: usize) -> u64
+    requires { ⌜ (at + 5 ≤ 55) × (length (now s) ≡ 55) ⌝ }
     ensures is { λ r. ⌜ r ≡ numberOf (take 5 (drop at (now (s .entry)))) ⌝ }
     ensures small { λ r. ⌜ r < 2 ^ 40 ⌝ }
 {
@@ -25,18 +25,33 @@ fn limb(s: &[u8], at: usize) -> u64
         + wide(s[at + 4])
 }
 
-// The lowest five bytes of x.
-fn with_limb(old: [u8; 55], at: usize, x: u64) -> [u8; 55]
-    requires { ⌜ at + 5 ≤ 55 ⌝ }
-    ensures { λ r. ⌜ r ≡ take at old ++ (bytesOf 5 x ++ drop (at + 5) old) ⌝ }
+// The lowest five bytes of x, put in their place.
+fn put_limb(s: &mut [u8; 55], at: usize, x: u64)
+    requires { ⌜ (at + 5 ≤ 55) × (length (now s) ≡ 55) ⌝ }
+    ensures is { λ _. ⌜ now (s .exit) ≡ take at (now (s .entry)) ++ (bytesOf 5 x ++ drop (at + 5) (now (s .entry))) ⌝ }
+    ensures sized { λ _. ⌜ length (now (s .exit)) ≡ 55 ⌝ }
 {
-    let mut s = old;
     s[at] = (x / 4294967296 % 256) as u8;
     s[at + 1] = (x / 16777216 % 256) as u8;
     s[at + 2] = (x / 65536 % 256) as u8;
     s[at + 3] = (x / 256 % 256) as u8;
     s[at + 4] = (x % 256) as u8;
-    s
+}
+
+// b and extra added to s, in place.
+pub fn add(s: &mut [u8; 55], b: &[u8; 55], extra: u64)
+    requires { ⌜ (length (now s) ≡ 55) × (length (now b) ≡ 55) × (extra < 2 ^ 63) ⌝ }
+    ensures is { λ _. ⌜ now (s .exit) ≡ bytesOf 55 (numberOf (now (s .entry)) + numberOf (now (b .entry)) + extra) ⌝ }
+    ensures sized { λ _. ⌜ length (now (s .exit)) ≡ 55 ⌝ }
+{
+    let mut carry = extra;
+    let mut at = 55;
+    while 0 < at {
+        at -= 5;
+        let total = limb(s, at) + limb(b, at) + carry;
+        put_limb(s, at, total);
+        carry = total / 1099511627776;
+    }
 }
 
 // a + b + extra
@@ -44,16 +59,8 @@ pub fn plus(a: [u8; 55], b: [u8; 55], extra: u64) -> [u8; 55]
     requires { ⌜ extra < 2 ^ 63 ⌝ }
     ensures { λ r. ⌜ r ≡ bytesOf 55 (numberOf a + numberOf b + extra) ⌝ }
 {
-    let mut sum = [0u8; 55];
-    let mut carry = extra;
-    let mut at = 55;
-    while 0 < at {
-        at -= 5;
-        let total = limb(&a, at) + limb(&b, at) + carry;
-        let next = with_limb(sum, at, total);
-        sum = next;
-        carry = total / 1099511627776;
-    }
+    let mut sum = a;
+    add(&mut sum, &b, extra);
     sum
 }
 

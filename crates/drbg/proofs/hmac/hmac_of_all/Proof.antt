@@ -5,7 +5,7 @@ use mathlib.Core.List.{[], _∷_, _++_, append-assoc}
 use native.Mathlib.Omega.{arith}
 use lib.ListN.{length-append}
 use Rattle.standard.specs.Hash.{hash}
-use Rattle.standard.specs.Hmac.{hmac}
+use Rattle.standard.specs.Hmac.{xored, filled, hmac}
 use Rattle.standard.specs.Sha256.{sha256}
 use Rattle.standard.proofs.Counts.{sha256-hash}
 use Rattle.sha256.specs.Values.{digestOf}
@@ -26,7 +26,9 @@ returns c =
     let a = c .before .before .before .before .before .before .before .before .before .before .before .before .args in
     let inner : digestOf (joined .result) ≡ hash sha256 (pad .result ++ (a .t2 ++ (a .separator ∷ (a .entropy .now ++ (a .nonce .now ++ a .personalization .now))))) =
     joined .ensures ∙ ap (hash sha256) (simp append-assoc) in
-    sym (rw (← pad .ensures, ← inner, ← c .before .before .pad-block2 .ensures, ← c .before .hash-behind .ensures))
+    let inside : pad .result ≡ xored 0x36 (filled sha256 (a .key)) = pad .ensures in
+    let outside : c .before .before .pad-block2 .result ≡ xored 0x5c (filled sha256 (a .key)) = c .before .before .pad-block2 .ensures in
+    sym (rw (← inside, ← inner, ← outside, ← c .before .hash-behind .ensures))
 
 pub hmac-of-all-spec : {M : Type 1} → statement M
 hmac-of-all-spec = tie.close (tie.spec (λ c κs. search needs) (λ c. search needs) (λ c. search needs) (λ c. search needs) (λ c κs. search needs) (λ c κs. search needs) (λ c κs. search needs) add-t20 returns)

@@ -8,9 +8,16 @@ use Rattle.drbg.proofs.sums.limb.Tie as tie
 
 returns : tie.Need-returns
 returns c =
-    let a = c .before .before .before .before .before .before .before .before .before .before .before .args in (
-      rw (c .before .before .before .before .before .before .before .before .wide .ensures .0, c .before .before .before .before .before .before .wide2 .ensures .0, c .before .before .before .before .wide3 .ensures .0, c .before .before .wide4 .ensures .0, c .wide5 .ensures .0)
-          (sym (limb-read (a .s .now) (a .at) (omega (arith, c .before .before .before .before .before .before .before .before .before .before .before .pre)))),
+    let a = c .before .before .before .before .before .before .before .before .before .before .args in
+    let pre = c .before .before .before .before .before .before .before .before .before .before .pre in (
+      rw (
+        c .before .before .before .before .before .before .before .before .wide .ensures .0,
+        c .before .before .before .before .before .before .wide2 .ensures .0,
+        c .before .before .before .before .wide3 .ensures .0,
+        c .before .before .wide4 .ensures .0,
+        c .wide5 .ensures .0,
+      )
+          (sym (limb-read (a .s .now) (a .at) (omega (arith, pre)))),
       search needs,
     )
 
