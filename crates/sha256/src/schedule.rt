@@ -37,17 +37,46 @@ fn block_words(block: &[u8]) -> [u32; 64]
     w
 }
 
-// The sixteen words of any block, and the 48 that follow from them.
+// Word t from the words before it.
+fn with_next(words: [u32; 64], t: usize) -> [u32; 64]
+    requires { ⌜ (16 ≤ t) × (t < 64) ⌝ }
+    ensures { λ r. ⌜ ((block : List ℕ) → take t words ≡ schedule sha256 block t → take (t + 1) r ≡ schedule sha256 block (t + 1)) ⌝ }
+{
+    let mut w = words;
+    let recent = words::sum(words::lower_sigma_1(w[t - 2]), w[t - 7]);
+    let older = words::sum(recent, words::lower_sigma_0(w[t - 15]));
+    w[t] = words::sum(older, w[t - 16]);
+    w
+}
+
+// Four words more.
+fn with_four(words: [u32; 64], t: usize) -> [u32; 64]
+    requires { ⌜ (16 ≤ t) × (t + 4 ≤ 64) ⌝ }
+    ensures { λ r. ⌜ ((block : List ℕ) → take t words ≡ schedule sha256 block t → take (t + 4) r ≡ schedule sha256 block (t + 4)) ⌝ }
+{
+    let second = with_next(words, t);
+    let third = with_next(second, t + 1);
+    let fourth = with_next(third, t + 2);
+    with_next(fourth, t + 3)
+}
+
+// The sixteen words of any block, and the 48 that follow from them. They are written out, not looped over: then every place in the array
+// is known when the crate is compiled, no array is left at run time, and a word is worked out right before its turn.
 fn extended(words: [u32; 64]) -> [u32; 64]
     ensures { λ r. ⌜ ((block : List ℕ) → take 16 words ≡ schedule sha256 block 16 → r ≡ schedule sha256 block 64) ⌝ }
 {
-    let mut w = words;
-    for t in 16..64 {
-        let recent = words::sum(words::lower_sigma_1(w[t - 2]), w[t - 7]);
-        let older = words::sum(recent, words::lower_sigma_0(w[t - 15]));
-        w[t] = words::sum(older, w[t - 16]);
-    }
-    w
+    let w20 = with_four(words, 16);
+    let w24 = with_four(w20, 20);
+    let w28 = with_four(w24, 24);
+    let w32 = with_four(w28, 28);
+    let w36 = with_four(w32, 32);
+    let w40 = with_four(w36, 36);
+    let w44 = with_four(w40, 40);
+    let w48 = with_four(w44, 44);
+    let w52 = with_four(w48, 48);
+    let w56 = with_four(w52, 52);
+    let w60 = with_four(w56, 56);
+    with_four(w60, 60)
 }
 
 pub fn schedule_of(block: &[u8]) -> [u32; 64]
