@@ -18,15 +18,15 @@ use Rattle.standard.specs.Functions.{Mechanism, HMAC-DRBG, Hash-DRBG, reseeding
 use Rattle.standard.specs.Sha256.{sha256}
 use Rattle.standard.proofs.Lengths.{Sized, stateBytes, ready-update, sized-reseeding}
 use Rattle.standard.proofs.Bound.{bounded}
-use Rattle.drbg.specs.Keys.{ready, costing, keyed, updatedOf, outputOf, drawnOut}
-use Rattle.drbg.specs.Seeds.{valueOf, stateWith}
+use Rattle.drbg_hmac.specs.Keys.{ready, costing, keyed, updatedOf, outputOf, drawnOut}
+use Rattle.drbg_hash.specs.Seeds.{valueOf, stateWith}
 use Rattle.drbg.specs.Generator.{Filled, field, standing, stateOf, served, filled, keptHmac}
 use Rattle.drbg.specs.declared.generator.Served.{Served}
-use Rattle.drbg.specs.declared.hmac_drbg.Updated.{Updated}
-use Rattle.drbg.specs.declared.hmac_drbg.Output.{Output}
-use Rattle.drbg.specs.declared.hash_drbg.Value.{Value}
-use Rattle.drbg.proofs.Pads.{key-ready}
-use Rattle.drbg.proofs.Updates.{same-metered}
+use Rattle.drbg_hmac.specs.declared.hmac_drbg.Updated.{Updated}
+use Rattle.drbg_hmac.specs.declared.hmac_drbg.Output.{Output}
+use Rattle.drbg_hash.specs.declared.hash_drbg.Value.{Value}
+use Rattle.drbg_hmac.proofs.Pads.{key-ready}
+use Rattle.drbg_hmac.proofs.Updates.{same-metered}
 
 pub field-32 : (s : List ℕ) → length s ≡ 32 → field s ≡ s ++ replicate 23 0
 unfolding field

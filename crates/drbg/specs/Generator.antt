@@ -10,7 +10,7 @@ use Rattle.standard.specs.State.{State, Drawn}
 use Rattle.standard.specs.Functions.{Mechanism, HMAC-DRBG, Hash-DRBG}
 use Rattle.drbg.specs.declared.generator.Generator.{Generator}
 use Rattle.drbg.specs.declared.generator.Served.{Served}
-use Rattle.drbg.specs.declared.hmac_drbg.Updated.{Updated}
+use Rattle.drbg_hmac.specs.declared.hmac_drbg.Updated.{Updated}
 
 -- document 01: 1 is HMAC_DRBG and 2 is Hash_DRBG (here any number but 1: callers have refused the others)
 abbrev pub mechanismOf : ℕ → Mechanism

@@ -1,8 +1,9 @@
 // Both mechanisms behind one door: a generator as it stands in a slot goes in, and its successor comes back.
-use crate::copies;
-use crate::hash_df;
-use crate::hash_drbg;
-use crate::hmac_drbg;
+use drbg_hash::hash_df;
+use drbg_hash::hash_drbg;
+use drbg_hash::sums;
+use drbg_hmac::copies;
+use drbg_hmac::hmac_drbg;
 ghost use mathlib.Core.Path.{_≡_};
 ghost use mathlib.Core.List.{_++_};
 ghost use Prim.Native.Nat.{_^_, _≤_, _<_};
@@ -145,11 +146,15 @@ fn hash_drawn(
     ensures few { λ r. ⌜ r .blocks ≤ 8288 ⌝ }
 {
     let begun = hash_drbg::refresh(first, additional);
-    let v = begun.v;
-    let output = hash_drbg::hashgen_filled(v, out);
+    let refreshed = begun.v;
+    // V, and the bit 1 that its padding begins with
+    let v = sums::limbs_of(refreshed, 128);
+    let mut data = v;
+    let output = hash_drbg::hashgen_filled(&mut data, out);
+    let counted = counter + 1;
     let last = hash_drbg::step(v, c, counter);
     let next = last.v;
-    hash_served(next, c, counter + 1, begun.blocks + output + last.blocks)
+    hash_served(next, c, counted, begun.blocks + output + last.blocks)
 }
 
 // SP 800-90A §9.1, step 9.

@@ -10,7 +10,7 @@ use Rattle.standard.specs.HashDrbg.{reseed, seeded}
 use Rattle.standard.specs.Sha256.{sha256}
 use Rattle.standard.proofs.Counts.{seeded-blocks}
 use Rattle.drbg.specs.Generator.{served, standing, stateOf}
-use Rattle.drbg.specs.Seeds.{seedOf}
+use Rattle.drbg_hash.specs.Seeds.{seedOf}
 use Rattle.drbg.proofs.Standing.{field-55}
 use borrow.Author.Needs.{needs}
 use Rattle.drbg.proofs.generator.hash_reseeded.Statement.{statement}

@@ -7,7 +7,7 @@ use lib.ListN.{length}
 use Rattle.standard.specs.State.{State}
 use Rattle.standard.specs.HmacDrbg.{update}
 use Rattle.standard.specs.Sha256.{sha256}
-use Rattle.drbg.specs.Keys.{keyed, updatedOf}
+use Rattle.drbg_hmac.specs.Keys.{keyed, updatedOf}
 use Rattle.drbg.specs.Generator.{stateOf, keptHmac}
 use Rattle.drbg.proofs.Standing.{served-hmac, few-hmac}
 use borrow.Author.Needs.{needs}

@@ -10,7 +10,7 @@ use Rattle.standard.specs.HmacDrbg.{reseed, update}
 use Rattle.standard.specs.Functions.{HMAC-DRBG, reseeding}
 use Rattle.standard.specs.Sha256.{sha256}
 use Rattle.standard.proofs.Bound.{bounded}
-use Rattle.drbg.specs.Keys.{keyed, updatedOf}
+use Rattle.drbg_hmac.specs.Keys.{keyed, updatedOf}
 use Rattle.drbg.specs.Generator.{served, stateOf}
 use Rattle.drbg.proofs.Standing.{kept-update, taken-ready}
 use borrow.Author.Needs.{needs}

@@ -1,0 +1,4 @@
+-- What the proofs of several functions share.
+pub mod Limbs
+pub mod Carries
+pub mod Derivations

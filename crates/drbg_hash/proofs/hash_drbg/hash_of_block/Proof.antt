@@ -1,0 +1,15 @@
+-- One block. Assumes nothing.
+use mathlib.Core.Path.{ap, _∙_}
+use Rattle.standard.specs.Hash.{compressed, digest}
+use Rattle.standard.specs.Sha256.{sha256}
+use borrow.Author.Needs.{needs}
+use Rattle.drbg_hash.proofs.hash_drbg.hash_of_block.Statement.{statement}
+use Rattle.drbg_hash.proofs.hash_drbg.hash_of_block.Tie as tie
+
+returns : tie.Need-returns
+returns c =
+    let block = c .before .before .before .before .args .t1 in
+    c .bytes-of .ensures ∙ ap (digest sha256) (c .before .compress .ensures ∙ ap (λ h. compressed sha256 h block) (c .before .before .before .initial .ensures))
+
+pub hash-of-block-spec : {M : Type 1} → statement M
+hash-of-block-spec = tie.close (tie.spec (λ c κs. search needs) (λ c. search needs) (λ c κs. search needs) (λ c κs. search needs) returns)

@@ -1,0 +1,11 @@
+-- Eight quotients. Assumes nothing.
+use Rattle.drbg_hash.proofs.Limbs.{limb-stored}
+use borrow.Author.Needs.{needs}
+use Rattle.drbg_hash.proofs.sums.bytes_of.Statement.{statement}
+use Rattle.drbg_hash.proofs.sums.bytes_of.Tie as tie
+
+returns : tie.Need-returns
+returns c = limb-stored (c .args .x)
+
+pub bytes-of-spec : {M : Type 1} → statement M
+bytes-of-spec = tie.close (tie.spec (λ c. search needs) (λ c. search needs) (λ c. search needs) (λ c. search needs) (λ c. search needs) (λ c. search needs) (λ c. search needs) (λ c. search needs) returns)

@@ -1,0 +1,41 @@
+-- The first i limbs at each i. Assumes nothing.
+use Prim.Native.Nat.{_+_, _-_, _*_, _≤_}
+use mathlib.Core.Path.{_≡_, refl, sym, ap, _∙_}
+use mathlib.Core.List.{[], _∷_, _++_}
+use native.Mathlib.Nat.{le-of-eq}
+use native.Mathlib.Omega.{arith}
+use lib.ListN.{length, take, replicate, length-append}
+use lib.Seq.{take-all}
+use Rattle.drbg_hash.specs.Limbs.{stringOf}
+use Rattle.drbg_hash.proofs.Limbs.{limbs-read}
+use Rattle.drbg_hmac.proofs.Pasted.{pasted}
+use borrow.Author.Needs.{needs}
+use Rattle.drbg_hash.proofs.sums.limbs_of.Statement.{statement}
+use Rattle.drbg_hash.proofs.sums.limbs_of.Tie as tie
+
+abbrev Inv-loop : tie.InvT-loop
+Inv-loop last whole limbs₀ i₀ limbs i = (i ≤ 7) × (length limbs ≡ 7) × (stringOf (take i limbs) ≡ take (8 * i) whole)
+
+abbrev μ-loop : tie.MeasureT-loop
+μ-loop last whole limbs₀ i₀ limbs i = 7 - i
+
+loop-holds : tie.Need-loop-holds Inv-loop μ-loop
+unfolding stringOf
+loop-holds c = (search needs, search needs, refl)
+
+loop-again : tie.Need-loop-again Inv-loop μ-loop
+loop-again c =
+    let l = c .before .before .before .loop in
+    (search needs, search needs, limbs-read (l .limbs) (l .i) (omega arith) _ (c .limb-of .result) (c .limb-of .ensures ∙ c .before .eight-at .ensures) (l .inv .2))
+
+returns : tie.Need-returns Inv-loop μ-loop
+returns c =
+    let l = c .before .loop in
+    let a = c .before .before .before .before .before .before .args in
+    let done : l .i ≡ 7 = omega arith in
+    let filled : c .before .before .before .copy .last .0 ≡ a .t1 ++ (a .last ∷ []) = c .before .before .before .copy .ensures ∙ pasted (replicate 56 (a .last)) (a .t1) 0 55 (omega arith) in
+    let size : length (c .before .before .before .copy .last .0) ≤ 56 = omega (arith, ap length filled, length-append (a .t1) (a .last ∷ [])) in
+    sym (ap stringOf (take-all 7 (l .limbs) (le-of-eq (l .inv .1)))) ∙ (rw done at (l .inv .2)) ∙ take-all 56 (c .before .before .before .copy .last .0) size ∙ filled
+
+pub limbs-of-spec : {M : Type 1} → statement M
+limbs-of-spec = tie.close (tie.spec Inv-loop μ-loop (λ c. search needs) (λ c. search needs) (λ c κs. search needs) loop-holds (λ c. search needs) (λ c κs. search needs) (λ c κs. search needs) (λ c. search needs) (λ c. search needs) (λ c. search needs) (λ c. search needs) loop-again returns)

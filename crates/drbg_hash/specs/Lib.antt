@@ -1,0 +1,3 @@
+-- What the contracts of this crate cite, over the definitions of `standard`.
+pub mod Limbs
+pub mod Seeds

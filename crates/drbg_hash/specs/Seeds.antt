@@ -1,0 +1,27 @@
+-- Hash_DRBG's values as the code holds them, with their cost in blocks.
+use Prim.Native.Nat.{ℕ, _+_}
+use mathlib.Core.List.{List, _∷_}
+use Rattle.standard.specs.Metered.{Metered, return, _>>=_}
+use Rattle.standard.specs.Strings.{numberOf}
+use Rattle.standard.specs.Hash.{hash}
+use Rattle.standard.specs.State.{State}
+use Rattle.standard.specs.HashDrbg.{stepped}
+use Rattle.standard.specs.Sha256.{sha256}
+use Rattle.drbg_hash.specs.declared.hash_df.Derived.{Derived}
+use Rattle.drbg_hash.specs.declared.hash_drbg.Seed.{Seed}
+use Rattle.drbg_hash.specs.declared.hash_drbg.Value.{Value}
+
+abbrev pub derivedOf : Derived → Metered (List ℕ)
+derivedOf d = record { value = d .bytes; blocks = d .blocks }
+
+abbrev pub seedOf : Seed → Metered State
+seedOf s = record { value = record { first = s .v; second = s .c; counter = 1 }; blocks = s .blocks }
+
+abbrev pub valueOf : Value → Metered (List ℕ)
+valueOf x = record { value = x .v; blocks = x .blocks }
+
+-- SP 800-90A §10.1.1.4, steps 4 and 5
+unfoldable pub stateWith : (v c : List ℕ) (counter : ℕ) → Metered (List ℕ)
+stateWith v c counter = do
+  h ← hash sha256 (0x03 ∷ v)
+  return (stepped sha256 v (numberOf h + numberOf c + counter))

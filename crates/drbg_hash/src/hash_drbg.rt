@@ -1,0 +1,138 @@
+// SP 800-90A §10.1.1: Hash_DRBG over SHA-256.
+use crate::hash_df;
+use crate::sums;
+use drbg_hmac::copies;
+use drbg_hmac::joined;
+use drbg_hmac::output;
+use sha256::digest;
+use sha256::rounds;
+ghost use mathlib.Core.Path.{_≡_};
+ghost use mathlib.Core.List.{[], _∷_, _++_};
+ghost use Prim.Native.Nat.{_≤_};
+ghost use lib.ListN.{length, take};
+ghost use Rattle.standard.specs.Strings.{ceiling};
+ghost use Rattle.standard.specs.Hash.{compressed, digest, hash};
+ghost use Rattle.standard.specs.HashDrbg.{seeded, refreshed, hashgen, hashgenTurns};
+ghost use Rattle.standard.specs.Sha256.{sha256};
+ghost use Rattle.drbg_hmac.specs.Keys.{costing};
+ghost use Rattle.drbg_hash.specs.Limbs.{stringOf, valueIn, Marked};
+ghost use Rattle.drbg_hash.specs.Seeds.{seedOf, valueOf, stateWith};
+
+// V and C, with the blocks that were consumed for them.
+pub struct Seed {
+    pub v: [u8; 55],
+    pub c: [u8; 55],
+    pub blocks: u64,
+}
+
+// V, with the blocks that were consumed for it.
+pub struct Value {
+    pub v: [u8; 55],
+    pub blocks: u64,
+}
+
+// §10.1.1.2 and 10.1.1.3, steps 2 to 6: the seed material is n bytes of lead, then the caller's strings.
+pub fn seed_from<'a>(
+    lead: [u8; 56],
+    n: usize,
+    entropy: &'a [u8],
+    nonce: &'a [u8],
+    personalization: &'a [u8],
+) -> Seed
+    requires { ⌜ (n ≤ 56) × (length (now entropy) ≤ 1024) × (length (now nonce) ≤ 1024) × (length (now personalization) ≤ 1024) ⌝ }
+    ensures { λ r. ⌜ seedOf r ≡ seeded sha256 (take n lead ++ (now (entropy .entry) ++ (now (nonce .entry) ++ now (personalization .entry)))) ⌝ }
+{
+    let first = hash_df::derive(lead, n, entropy, nonce, personalization);
+    let v = first.bytes;
+    let none = &entropy[..0];
+    let second = hash_df::derive(hash_df::led(0, v), 56, none, none, none);
+    let c = second.bytes;
+    Seed {
+        v,
+        c,
+        blocks: first.blocks + second.blocks,
+    }
+}
+
+// V and a bit 1 as limbs are V's only block but for its end: zeros and 440, the length in bits.
+fn only_block(limbs: [u64; 7]) -> [u8; 64]
+    ensures { λ r. ⌜ r ≡ stringOf limbs ++ (0 ∷ 0 ∷ 0 ∷ 0 ∷ 0 ∷ 0 ∷ 1 ∷ 184 ∷ []) ⌝ }
+{
+    let mut block = [0u8; 64];
+    block[62] = 1;
+    block[63] = 184;
+    sums::put_limbs(&mut block, limbs);
+    block
+}
+
+// The hash of a padded message that is one block.
+fn hash_of_block(block: [u8; 64]) -> [u8; 32]
+    ensures { λ r. ⌜ r ≡ digest sha256 (compressed sha256 (sha256 .initial) block) ⌝ }
+{
+    digest::bytes_of(rounds::compress(rounds::initial(), &block))
+}
+
+// §10.1.1.4, Hashgen: the lent output is filled in place, and the lent data moves on. The blocks are handed back.
+pub fn hashgen_filled(next: &mut [u64; 7], out: &mut [u8]) -> u64
+    requires { ⌜ (length (now next) ≡ 7) × (length (now out) ≤ 65536) × Marked (now next) ⌝ }
+    ensures is { λ r. ⌜ costing r (now (out .exit)) ≡ hashgen sha256 (length (now (out .entry))) (valueIn (now (next .entry))) ⌝ }
+    ensures moved { λ _. ⌜ valueIn (now (next .exit)) ≡ hashgenTurns sha256 (valueIn (now (next .entry))) (ceiling (length (now (out .entry))) 32) .value .1 ⌝ }
+{
+    // 1, before the byte behind V
+    let one = [0, 0, 0, 0, 0, 0, 256];
+    let mut at = 0;
+    while at < out.len() {
+        let block = only_block(*next);
+        let further = sums::plus(*next, one);
+        *next = further;
+        let w = hash_of_block(block);
+        output::store(out, at, w);
+        at += 32;
+    }
+    (at / 32) as u64
+}
+
+// §10.1.1.4, step 2
+pub fn refresh(v: [u8; 55], additional: &[u8]) -> Value
+    requires { ⌜ length (now additional) ≤ 1024 ⌝ }
+    ensures { λ r. ⌜ valueOf r ≡ refreshed sha256 (now (additional .entry)) v ⌝ }
+{
+    if additional.len() == 0 {
+        return Value { v, blocks: 0 };
+    }
+    let lead = hash_df::led(2, v);
+    let none = &additional[..0];
+    let all = &lead[..];
+    let empty = &all[..0];
+    let w = joined::hash_joined(all, empty, empty, additional, none, none);
+    let bytes = w.bytes;
+    let next = sums::total(v, bytes, [0u8; 55], 0);
+    Value {
+        v: next,
+        blocks: w.blocks,
+    }
+}
+
+// The hash of 56 bytes: a bit 1 and zeros fill their block, and 448, the length in bits, ends another.
+fn hash_of_led(lead: [u8; 56]) -> [u8; 32]
+    ensures { λ r. ⌜ costing 2 r ≡ hash sha256 lead ⌝ }
+{
+    let mut first = [0u8; 64];
+    first[56] = 128;
+    copies::copy(&mut first, 0, &lead);
+    let mut last = [0u8; 64];
+    last[62] = 1;
+    last[63] = 192;
+    let once = rounds::compress(rounds::initial(), &first);
+    digest::bytes_of(rounds::compress(once, &last))
+}
+
+// §10.1.1.4, steps 4 and 5: V after a draw.
+pub fn step(limbs: [u64; 7], c: [u8; 55], counter: u64) -> Value
+    ensures { λ r. ⌜ valueOf r ≡ stateWith (valueIn limbs) c counter ⌝ }
+{
+    let v = sums::number_of(limbs);
+    let h = hash_of_led(hash_df::led(3, v));
+    let next = sums::total(v, h, c, counter);
+    Value { v: next, blocks: 2 }
+}

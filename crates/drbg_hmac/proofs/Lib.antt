@@ -1,0 +1,6 @@
+-- What the proofs of several functions share.
+pub mod Pasted
+pub mod Pads
+pub mod Short
+pub mod Updates
+pub mod Outputs

@@ -1,0 +1,67 @@
+-- After each turn the output holds what fits of the hashes so far. Assumes nothing.
+use Prim.Native.Nat.{ℕ, _+_, _-_, _*_, _/_, _%_, _<_}
+use mathlib.Core.Path.{_≡_, refl, sym, ap, ap₂, _∙_}
+use mathlib.Core.List.{List, _++_}
+use native.Mathlib.Omega.{arith}
+use lib.Dec.{lit<}
+use lib.ListN.{length, take}
+use lib.Seq.{take-nil, take-all}
+use Rattle.standard.specs.HmacDrbg.{outputTurns}
+use Rattle.standard.specs.Sha256.{sha256}
+use Rattle.standard.proofs.Counts.{outputTurns-blocks}
+use Rattle.standard.proofs.Lengths.{length-outputTurns, length-filled}
+use Rattle.drbg_hmac.specs.Keys.{ready}
+use Rattle.drbg_hmac.proofs.Outputs.{turn-stored, turns-are, output-more}
+use Rattle.drbg_hmac.proofs.Updates.{same-metered}
+use borrow.Author.Needs.{needs}
+use Rattle.drbg_hmac.proofs.hmac_drbg.output_filled.Statement.{statement}
+use Rattle.drbg_hmac.proofs.hmac_drbg.output_filled.Tie as tie
+
+-- temp and V after the turns that reached `at`
+abbrev made : (K v : List ℕ) (at : ℕ) → List ℕ × List ℕ
+made K v at = outputTurns sha256 (ready K) v (at / 32) .value
+
+abbrev Inv-loop : tie.InvT-loop
+Inv-loop key out₀ w₀ at₀ out w at =
+    (at % 32 ≡ 0) × (at < length out₀ + 32) × (length out ≡ length out₀) × (length w ≡ 32) ×
+    (take at out ≡ take (length out₀) (made key w₀ at .0)) × (w ≡ made key w₀ at .1)
+
+abbrev μ-loop : tie.MeasureT-loop
+μ-loop key out₀ w₀ at₀ out w at = length out₀ + 32 - at
+
+loop-holds : tie.Need-loop-holds Inv-loop μ-loop
+unfolding outputTurns
+loop-holds c = (search needs, search needs, search needs, search needs, sym (take-nil (length (c .before .args .out .now))), refl)
+
+loop-again : tie.Need-loop-again Inv-loop μ-loop
+loop-again c =
+    let l = c .before .before .before .before .before .before .loop in
+    let a = c .before .before .before .before .before .before .before .before .args in
+    let next = c .before .before .before .before .hmac-of in
+    let turn : (l .at + 32) / 32 ≡ l .at / 32 + 1 = omega arith in
+    let more : made (a .key) (a .v) (l .at + 32) ≡ (made (a .key) (a .v) (l .at) .0 ++ next .result, next .result) =
+    ap (λ i. outputTurns sha256 (ready (a .key)) (a .v) i .value) turn ∙
+    (output-more (ready (a .key)) (a .v) (l .at / 32) (l .w) (next .result) 4 (l .inv .5) (next .ensures)) in
+    let size : length (made (a .key) (a .v) (l .at) .0) ≡ l .at = length-outputTurns sha256 (ready (a .key)) (a .v) (l .at / 32) ∙ omega arith in (
+      search needs,
+      search needs,
+      search needs,
+      search needs,
+      turn-stored (made (a .key) (a .v) (l .at) .0) (next .result) (l .out) _ (l .at) _ more (l .inv .2) (omega arith) size (omega arith) (l .inv .4) (c .before .before .store .ensures),
+      sym (ap (λ t. t .1) more),
+    )
+
+returns : tie.Need-returns Inv-loop μ-loop
+returns c =
+    let l = c .before .loop in
+    let start = c .before .before .before in
+    let a = start .args in
+    let turns = turns-are (length (a .out .now)) (l .at) (l .inv .0) (omega arith) (l .inv .1) in
+    sym
+    (rw turns
+    (same-metered
+    (ap₂ (λ x y. (x, y)) (sym (l .inv .4) ∙ take-all (l .at) (l .out) (omega arith)) (sym (l .inv .5)))
+    (outputTurns-blocks sha256 (lit< tt) (ready (a .key)) (a .v) (l .at / 32) (length-filled sha256 (a .key) (omega (arith, start))) (omega (arith, start)))))
+
+pub output-filled-spec : {M : Type 1} → statement M
+output-filled-spec = tie.close (tie.spec Inv-loop μ-loop loop-holds (λ c κs. search needs) (λ c κs. search needs) (λ c. search needs) (λ c. search needs) loop-again (λ c. search needs) (λ c. search needs) returns)

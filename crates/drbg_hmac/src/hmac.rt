@@ -1,0 +1,78 @@
+// FIPS 198-1: HMAC under a key of 32 bytes.
+use crate::copies;
+use crate::joined;
+use sha256::digest;
+use sha256::rounds;
+use sha256::running::Digest;
+use sha256::running::Running;
+ghost use mathlib.Core.Path.{_≡_};
+ghost use mathlib.Core.List.{_∷_, _++_};
+ghost use Prim.Native.Nat.{_≤_};
+ghost use lib.ListN.{length, drop};
+ghost use Rattle.standard.specs.Hash.{padding, hash};
+ghost use Rattle.standard.specs.Hmac.{xored, filled, hmac};
+ghost use Rattle.standard.specs.Sha256.{sha256};
+ghost use Rattle.sha256.specs.Values.{digestOf};
+ghost use Rattle.drbg_hmac.specs.Keys.{ready, costing};
+
+// Table 1, steps 4 and 7: the key, zeros behind it, each byte xored with the pad's.
+fn pad_block(key: [u8; 32], pad: u8) -> [u8; 64]
+    ensures { λ r. ⌜ r ≡ xored pad (filled sha256 key) ⌝ }
+{
+    let mut block = [pad; 64];
+    for i in 0..32 {
+        block[i] = key[i] ^ pad;
+    }
+    block
+}
+
+// What follows a pad block in the hash of 96 bytes: 32 bytes, a bit 1, zeros, and 768, the length in bits.
+fn last_block(v: [u8; 32]) -> [u8; 64]
+    ensures { λ r. ⌜ r ≡ v ++ padding sha256 96 ⌝ }
+{
+    let mut block = [0u8; 64];
+    block[32] = 128;
+    block[62] = 3;
+    copies::copy(&mut block, 0, &v);
+    block
+}
+
+// The hash of a pad block and 32 bytes, with no scratch between.
+fn hash_behind(pad: [u8; 64], v: [u8; 32]) -> [u8; 32]
+    ensures { λ r. ⌜ costing 2 r ≡ hash sha256 (pad ++ v) ⌝ }
+{
+    let last = last_block(v);
+    let first = rounds::compress(rounds::initial(), &pad);
+    digest::bytes_of(rounds::compress(first, &last))
+}
+
+// HMAC (key, v) for 32 bytes v: four blocks.
+pub fn hmac_of(key: [u8; 32], v: [u8; 32]) -> [u8; 32]
+    ensures { λ r. ⌜ costing 4 r ≡ hmac sha256 (ready key) v ⌝ }
+{
+    let inner = hash_behind(pad_block(key, 0x36), v);
+    hash_behind(pad_block(key, 0x5c), inner)
+}
+
+// HMAC (key, v ‖ separator ‖ entropy ‖ nonce ‖ personalization), the strings read through as one.
+pub fn hmac_of_all<'a>(
+    key: [u8; 32],
+    v: [u8; 32],
+    separator: u8,
+    entropy: &'a [u8],
+    nonce: &'a [u8],
+    personalization: &'a [u8],
+) -> Digest
+    requires { ⌜ (length (now entropy) ≤ 1024) × (length (now nonce) ≤ 1024) × (length (now personalization) ≤ 1024) ⌝ }
+    ensures { λ r. ⌜ digestOf r ≡ hmac sha256 (ready key) (v ++ (separator ∷ (now (entropy .entry) ++ (now (nonce .entry) ++ now (personalization .entry))))) ⌝ }
+{
+    let inner_pad = pad_block(key, 0x36);
+    let mark = [separator];
+    let inner = joined::hash_joined(&inner_pad, &v, &mark, entropy, nonce, personalization);
+    let bytes = inner.bytes;
+    let outer = hash_behind(pad_block(key, 0x5c), bytes);
+    Digest {
+        bytes: outer,
+        blocks: inner.blocks + 2,
+    }
+}
