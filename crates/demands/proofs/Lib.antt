@@ -1,4 +1,5 @@
 -- The three demands, by subject: demand 1 (Answered, Moves, Kept), demand 2 (Standard, Handles, Draws, Between), demand 3 (Alike).
+-- InBytes carries them to a table in the caller's bytes.
 pub mod Outcome
 pub mod Answered
 pub mod Moves
@@ -8,4 +9,5 @@ pub mod Draws
 pub mod Standard
 pub mod Between
 pub mod Alike
+pub mod InBytes
 pub mod PLines

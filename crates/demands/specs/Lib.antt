@@ -4,3 +4,4 @@ pub mod Handles
 pub mod Draws
 pub mod Outcomes
 pub mod Alike
+pub mod InBytes

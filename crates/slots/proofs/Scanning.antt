@@ -2,11 +2,12 @@
 -- Assumes nothing.
 use mathlib.Core.Path.{_≡_, refl, sym, ap, ap₂, _∙_}
 use mathlib.Core.Bool.{Bool, true, false, _&&_, _||_}
+use mathlib.Core.List.{List}
 use Prim.Native.Nat.{ℕ, _+_, _%_, _^_, _<_}
 use native.Mathlib.Decide.{decLt}
 use native.Mathlib.Numerals.{add-one}
 use native.Mathlib.Omega.{arith}
-use borrow.Author.Tests.{lt-leb}
+use borrow.Author.Tests.{lt-leb, ne-eqb}
 use lib.Dec.{eqb, leb, leb·suc-suc}
 use lib.ListN.{length, take, drop, length-drop}
 use lib.Seq.{take-all}
@@ -42,20 +43,57 @@ join-used false m r q = refl
 join-used true true r q = refl
 join-used true false r q = refl
 
+or-none : (b : Bool) → b ≡ (b || false)
+or-none true = refl
+or-none false = refl
+
 module _ (last : ℕ) (s : Slot) (first : length (s .first) ≡ 55) (second : length (s .second) ≡ 55) where
-  pub slot-sound-by : (free used f g r q : Bool)
-      → free ≡ freeNumbers (s .mechanism) (s .strength) (s .interval) (s .counter) (s .fresh) (s .serial)
-      → used ≡ usedNumbers (s .mechanism) (s .strength) (s .interval) (s .counter) (s .fresh) (s .serial) last
-      → f ≡ allZero (take 32 (s .first)) → g ≡ allZero (take 32 (s .second))
-      → r ≡ allZero (take 23 (drop 32 (s .first))) → q ≡ allZero (take 23 (drop 32 (s .second)))
+  abbrev free-so : Bool
+  free-so = freeNumbers (s .mechanism) (s .strength) (s .interval) (s .counter) (s .fresh) (s .serial)
+
+  abbrev used-so : Bool
+  used-so = usedNumbers (s .mechanism) (s .strength) (s .interval) (s .counter) (s .fresh) (s .serial) last
+
+  abbrev front-zero : List ℕ → Bool
+  front-zero field = allZero (take 32 field)
+
+  abbrev rest-zero : List ℕ → Bool
+  rest-zero field = allZero (take 23 (drop 32 field))
+
+  pub slot-sound-by : {free used f g r q : Bool} → free ≡ free-so → used ≡ used-so → f ≡ front-zero (s .first)
+      → g ≡ front-zero (s .second) → r ≡ rest-zero (s .first) → q ≡ rest-zero (s .second)
       → (free && (f && g) && (r && q) || used && (eqb (s .mechanism) 2 || r && q)) ≡ soundSlot last s
   unfolding soundSlot freeSound usedSound
-  slot-sound-by free used f g r q is-free is-used is-f is-g is-r is-q =
+  slot-sound-by {free} {used} {f} {g} {r} {q} is-free is-used is-f is-g is-r is-q =
       let r-all : take 23 (drop 32 (s .first)) ≡ drop 32 (s .first) = take-all 23 _ (rw length-drop (omega arith)) in
       let q-all : take 23 (drop 32 (s .second)) ≡ drop 32 (s .second) = take-all 23 _ (rw length-drop (omega arith)) in
       ap₂ _||_ (join-free free f g r q) (join-used used (eqb (s .mechanism) 2) r q) ∙
       rw (is-free, is-used, is-f, is-g, is-r, is-q, r-all, q-all, first, second)
       (rw (all-zero-split 32 (s .first), all-zero-split 32 (s .second)))
+
+  -- a slot of mechanism 0 is sound only if it is free
+  pub free-sound-by : s .mechanism ≡ 0 → {free f g r q : Bool} → free ≡ free-so → f ≡ front-zero (s .first) → g ≡ front-zero (s .second)
+      → r ≡ rest-zero (s .first) → q ≡ rest-zero (s .second) → (free && (f && g) && (r && q)) ≡ soundSlot last s
+  free-sound-by none {free} {f} {g} {r} {q} is-free is-f is-g is-r is-q =
+      let unused : used-so ≡ false =
+      ap (λ m. usedNumbers m (s .strength) (s .interval) (s .counter) (s .fresh) (s .serial) last) none in
+      ap (λ b. b && (f && g) && (r && q)) is-free ∙
+      or-none (free-so && (f && g) && (r && q)) ∙
+      ap (λ b. free-so && (f && g) && (r && q) || b && (eqb (s .mechanism) 2 || r && q)) (sym unused) ∙
+      slot-sound-by refl refl is-f is-g is-r is-q
+
+  -- and any other only if it is used
+  pub used-sound-by : (s .mechanism ≡ 0 → ⊥) → {used r q : Bool} → used ≡ used-so → r ≡ rest-zero (s .first) → q ≡ rest-zero (s .second)
+      → (used && (eqb (s .mechanism) 2 || r && q)) ≡ soundSlot last s
+  used-sound-by some {used} {r} {q} is-used is-r is-q =
+      let unfree : free-so ≡ false =
+      ap (λ b. b && eqb (s .strength) 0 && eqb (s .interval) 0 && eqb (s .counter) 0 && eqb (s .fresh) 0 && eqb (s .serial) 0)
+      (ne-eqb (s .mechanism) 0 some) in
+      let f = front-zero (s .first) in
+      let g = front-zero (s .second) in
+      ap (λ b. b && (eqb (s .mechanism) 2 || r && q)) is-used ∙
+      ap (λ b. b && (f && g) && (r && q) || used-so && (eqb (s .mechanism) 2 || r && q)) (sym unfree) ∙
+      slot-sound-by refl refl refl refl is-r is-q
 
 module _ (t : Table) where
   -- one slot more, read with the last serial

@@ -28,7 +28,7 @@ fn counter_fits(counter: u64, interval: u64) -> bool
     (1 <= counter) & (before <= interval)
 }
 
-fn free_numbers(
+pub fn free_numbers(
     mechanism: u8,
     strength: u16,
     interval: u64,
@@ -46,7 +46,7 @@ fn free_numbers(
         & (serial == 0)
 }
 
-fn used_numbers(
+pub fn used_numbers(
     mechanism: u8,
     strength: u16,
     interval: u64,

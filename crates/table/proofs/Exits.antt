@@ -2,7 +2,7 @@
 use mathlib.Core.Path.{_≡_, refl, sym, ap, ap₂, _∙_}
 use mathlib.Core.Bool.{Bool, true, false, false≢true, not, _&&_}
 use mathlib.Core.List.{List}
-use Prim.Native.Nat.{ℕ, _+_, _^_, _≤_, _<_}
+use Prim.Native.Nat.{ℕ, _+_, _-_, _^_, _≤_, _<_}
 use native.Mathlib.Omega.{arith}
 use borrow.Author.Tests.{ltb-false, eqb-true, eqb-false}
 use lib.Dec.{eqb}
@@ -10,22 +10,52 @@ use lib.ListN.{length}
 use Rattle.drbg.specs.Generator.{Filled}
 use Rattle.drbg.specs.declared.generator.Generator.{Generator}
 use Rattle.drbg.specs.declared.generator.Served.{Served}
-use Rattle.slots.specs.Layout.{slotAt, lastSerial}
+use Rattle.slots.specs.Layout.{freeSlot, slotAt, withSlot, lastSerial}
 use Rattle.slots.specs.Sound.{sound}
 use Rattle.slots.specs.Handle.{lookUp, named, lowestFree}
 use Rattle.slots.specs.declared.slot.Slot.{Slot}
 use Rattle.slots.specs.declared.layout.Table.{Table}
 use Rattle.slots.proofs.Handles.{lowest-most}
 use Rattle.table.specs.Reasons.{Reasons, firstOf, rounded}
-use Rattle.table.specs.Answers.{refused, refusedDraw, generatorOf, stepped, steppedDraw, newSlot, installed}
+use Rattle.table.specs.Answers.{refused, accepted, refusedDraw, generatorOf, stepped, steppedDraw, newSlot, installed}
 use Rattle.table.specs.Served.{opened, reseeded, drawn, freshDrawn}
 use Rattle.table.specs.Opening.{openReasons, openOf}
 use Rattle.table.specs.Reseeding.{reseedReasons, reseedOf}
 use Rattle.table.specs.Drawing.{drawReasons, drawOf}
 use Rattle.table.specs.FreshDrawing.{freshDrawReasons, freshDrawOf}
+use Rattle.table.specs.Closing.{closeReasons, closeOf}
+use Rattle.table.specs.Inquiring.{inquireReasons, inquireOf}
 use Rattle.table.proofs.FirstReason.{none-holds}
 use Rattle.table.proofs.Allowed.{MayOpen, may-open, MayReseed, may-reseed, MayDraw, may-draw, MayDrawFresh, may-draw-fresh}
 use Rattle.table.proofs.Outcomes.{Named, here, first-here, refused-by, served-by}
+
+module _ (t : Table) (handle : ℕ) where
+  pub close-unsound : sound t ≡ false → refused t 1 ≡ closeOf t handle
+  unfolding closeOf closeReasons firstOf
+  close-unsound broken = refused-by _ (refused t) _ 1 (sym (rw broken)) (λ e. omega arith)
+
+  pub close-unnamed : sound t ≡ true → named (lookUp t handle) ≡ false → refused t 2 ≡ closeOf t handle
+  unfolding closeOf closeReasons firstOf
+  close-unnamed whole absent = refused-by _ (refused t) _ 2 (sym (rw (whole, absent))) (λ e. omega arith)
+
+  pub close-served : {i : ℕ} → Named t handle i → accepted (withSlot t i freeSlot) 0 0 ≡ closeOf t handle
+  unfolding closeOf closeReasons firstOf
+  close-served is = rw (is .place) (served-by _ (refused t) _ 0 (sym (rw (is .sound, is .found))) refl)
+
+  pub inquire-unsound : sound t ≡ false → refused t 1 ≡ inquireOf t handle
+  unfolding inquireOf inquireReasons firstOf
+  inquire-unsound broken = refused-by _ (refused t) _ 1 (sym (rw broken)) (λ e. omega arith)
+
+  pub inquire-unnamed : sound t ≡ true → named (lookUp t handle) ≡ false → refused t 2 ≡ inquireOf t handle
+  unfolding inquireOf inquireReasons firstOf
+  inquire-unnamed whole absent = refused-by _ (refused t) _ 2 (sym (rw (whole, absent))) (λ e. omega arith)
+
+  pub inquire-served : {i : ℕ} {s : Slot} → Named t handle i → s ≡ slotAt t i
+      → accepted t 0 (s .interval + 1 - s .counter) ≡ inquireOf t handle
+  unfolding inquireOf inquireReasons firstOf
+  inquire-served is at =
+      ap (λ u. accepted t 0 (u .interval + 1 - u .counter)) (here is at) ∙
+      served-by _ (refused t) _ 0 (sym (rw (is .sound, is .found))) refl
 
 module _ (t : Table) (handle : ℕ) (entropy additional : List ℕ) where
   abbrev reseed-reasons : Bool → Bool → Slot → Reasons
@@ -146,3 +176,8 @@ module _ {t : Table} {mechanism strength interval : ℕ} {entropy nonce personal
 
   pub open-slot : n ≡ 0 → i < 16
   open-slot none = omega (arith, open-allowed none .slot-free, lowest-most t 0 16, w .lowest)
+
+module _ (t : Table) (mechanism strength interval : ℕ) (fresh : Bool) (entropy nonce personalization : List ℕ) where
+  pub open-unsound : sound t ≡ false → refused t 1 ≡ openOf t mechanism strength interval fresh entropy nonce personalization
+  unfolding openOf openReasons firstOf
+  open-unsound broken = refused-by _ (refused t) _ 1 (sym (rw broken)) (λ e. omega arith)

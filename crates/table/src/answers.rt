@@ -51,7 +51,7 @@ pub fn generator_of(s: Slot) -> Generator
     }
 }
 
-fn with_generator(s: Slot, g: Generator) -> Slot
+pub fn with_generator(s: Slot, g: Generator) -> Slot
     ensures { λ r. ⌜ r ≡ withGenerator s g ⌝ }
 {
     let first = g.first;

@@ -14,7 +14,7 @@ ghost use Rattle.table.specs.Reasons.{firstOf};
 ghost use Rattle.table.specs.FreshDrawing.{freshDrawReasons, freshDrawOf};
 
 // The first reason, 0 where there is none, once the table is sound and the handle names a generator of strength `own`.
-fn reason(
+pub fn reason(
     own: u16,
     fresh: u8,
     strength: u64,

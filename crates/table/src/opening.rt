@@ -12,7 +12,7 @@ ghost use Rattle.table.specs.Reasons.{firstOf};
 ghost use Rattle.table.specs.Opening.{openReasons, openOf};
 
 // The first reason, 0 where there is none.
-fn reason(
+pub fn reason(
     sound: bool,
     mechanism: u64,
     strength: u64,

@@ -14,7 +14,7 @@ ghost use Rattle.table.specs.Reasons.{firstOf};
 ghost use Rattle.table.specs.Reseeding.{reseedReasons, reseedOf};
 
 // The first reason, 0 where there is none, once the table is sound and the handle names a generator of strength `own`.
-fn reason(own: u16, entropy: usize, additional: usize) -> u64
+pub fn reason(own: u16, entropy: usize, additional: usize) -> u64
     ensures { λ r. ⌜ r ≡ firstOf (reseedReasons true true own entropy additional) ⌝ }
 {
     let least = (own / 8) as usize;

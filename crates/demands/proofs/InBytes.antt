@@ -1,0 +1,178 @@
+-- The table in the caller's bytes: a refusal changes no byte of it or of the output, and a served call leaves the bytes of its table.
+-- So what is proved of calls on tables holds of the bytes. Assumes nothing.
+use mathlib.Core.Path.{_≡_, refl, sym, ap, ap₂, subst, _∙_}
+use mathlib.Core.Bool.{Bool, true, false, _||_, cond}
+use mathlib.Core.Logic.{_⊎_, inl, inr, ⊎-elim}
+use mathlib.Core.List.{List, [], _∷_, map}
+use Prim.Native.Nat.{ℕ, _+_, _%_, _^_, _≤_, _<_}
+use native.Mathlib.Omega.{arith}
+use borrow.Author.Tests.{eqb-true, ne-eqb}
+use lib.Dec.{eqb, lit<}
+use lib.ListN.{length, replicate, length-set}
+use Rattle.standard.proofs.Strings.{Bytes, bytes-replicate}
+use Rattle.slots.specs.Layout.{freeSlot, slotAt, withSlot, lastSerial, withLastSerial, freshTable}
+use Rattle.slots.specs.Handle.{lowestFree}
+use Rattle.slots.specs.declared.slot.Slot.{Slot}
+use Rattle.slots.specs.declared.layout.Table.{Table}
+use Rattle.slots.proofs.Flags.{either}
+use Rattle.slots.proofs.Slots.{slotAt-cases, lastSerial-withSlot, lastSerial-withLastSerial}
+use Rattle.slots.proofs.Soundness.{Used}
+use Rattle.table.specs.Answers.{Reply, stepped, installed}
+use Rattle.table.specs.Opening.{openOf}
+use Rattle.table.specs.Reseeding.{reseedOf}
+use Rattle.table.specs.Drawing.{drawOf}
+use Rattle.table.specs.FreshDrawing.{freshDrawOf}
+use Rattle.table.specs.Closing.{closeOf}
+use Rattle.table.specs.Inquiring.{inquireOf}
+use Rattle.table.proofs.Outcomes.{refusing, serving}
+use Rattle.table.proofs.Allowed.{may-open}
+use Rattle.stored.specs.Bytes.{tableBytes, tableOf}
+use Rattle.stored.specs.Calls.{Done, refusal, done, onBytes, silent}
+use Rattle.stored.proofs.SlotBytes.{Fits}
+use Rattle.stored.proofs.TableBytes.{Machine, length-tableBytes, bytes-tableOf, tableOf-bytes, machine-tableOf, fresh-bytes}
+use Rattle.stored.proofs.OnBytes.{served-on}
+use Rattle.demands.specs.Calls.{Call, opens, reseeds, draws, freshDraws, closes, inquires, reply, number, after, run, lent}
+use Rattle.demands.specs.InBytes.{inBytes, inBytesAll}
+use Rattle.demands.proofs.Outcome.{Outcome, outcome}
+use Rattle.demands.proofs.Answered.{refusal-keeps}
+use Rattle.demands.proofs.Moves.{Moves, stays, adds, steps, ends, moved}
+
+-- what the contracts of the calls on bytes say is this
+module _ (s : List ℕ) (handle strength : ℕ) (out entropy additional : List ℕ) where
+  pub draw-in-bytes : onBytes (λ t. drawOf t handle strength out additional) s out ≡ inBytes (draws handle strength out additional) s
+  draw-in-bytes = refl
+
+  pub fresh-draw-in-bytes : onBytes (λ t. freshDrawOf t handle strength out entropy additional) s out
+      ≡ inBytes (freshDraws handle strength out entropy additional) s
+  fresh-draw-in-bytes = refl
+
+  pub reseed-in-bytes : onBytes (silent (λ t. reseedOf t handle entropy additional)) s [] ≡ inBytes (reseeds handle entropy additional) s
+  reseed-in-bytes = refl
+
+  pub close-in-bytes : onBytes (silent (λ t. closeOf t handle)) s [] ≡ inBytes (closes handle) s
+  close-in-bytes = refl
+
+  pub inquire-in-bytes : onBytes (silent (λ t. inquireOf t handle)) s [] ≡ inBytes (inquires handle) s
+  inquire-in-bytes = refl
+
+pub open-in-bytes : (s : List ℕ) (mechanism strength interval : ℕ) (fresh : Bool) (entropy nonce personalization : List ℕ)
+    → onBytes (silent (λ t. openOf t mechanism strength interval fresh entropy nonce personalization)) s []
+    ≡ inBytes (opens mechanism strength interval fresh entropy nonce personalization) s
+open-in-bytes s mechanism strength interval fresh entropy nonce personalization = refl
+
+module _ (c : Call) (s : List ℕ) where
+  -- bytes of any other length are answered 1, and nothing is changed
+  pub other-length : (length s ≡ 2148 → ⊥) → inBytes c s ≡ record { told = refusal 1; table = s; output = lent c }
+  unfolding onBytes
+  other-length h =
+      ap (λ b. cond b (done (reply (tableOf s) c)) (record { told = refusal 1; table = s; output = lent c })) (ne-eqb (length s) 2148 h)
+
+  -- a refusal changes no byte of the table or of the output, and tells 0 blocks and value 0
+  pub refusal-keeps-bytes : Bytes s → (inBytes c s .told .number ≡ 0 → ⊥)
+      → inBytes c s ≡ record { told = refusal (inBytes c s .told .number); table = s; output = lent c }
+  unfolding onBytes
+  refusal-keeps-bytes b = go (eqb (length s) 2148) refl
+    where
+      found : Bool → Done
+      found long = cond long (done (reply (tableOf s) c)) (record { told = refusal 1; table = s; output = lent c })
+
+      go : (long : Bool) → eqb (length s) 2148 ≡ long → (found long .told .number ≡ 0 → ⊥)
+          → found long ≡ record { told = refusal (found long .told .number); table = s; output = lent c }
+      go true long some =
+          ap done (refusal-keeps (tableOf s) c some) ∙
+          ap (λ u. record { told = refusal (number (tableOf s) c); table = u; output = lent c })
+          (bytes-tableOf s b (eqb-true (length s) 2148 long))
+      go false long some = refl
+
+-- every call leaves a table of machine values, so that its bytes are read back as it
+four-most : (n : ℕ) → (eqb n 112 || eqb n 128 || eqb n 192 || eqb n 256) ≡ true → n < 2 ^ 16
+four-most n h = go (either _ (eqb n 256) h)
+  where
+    two : (eqb n 112 || eqb n 128) ≡ true → n < 2 ^ 16
+    two g = ⊎-elim (λ e. omega (arith, eqb-true n 112 e)) (λ e. omega (arith, eqb-true n 128 e)) (either (eqb n 112) (eqb n 128) g)
+
+    three : (eqb n 112 || eqb n 128 || eqb n 192) ≡ true → n < 2 ^ 16
+    three g = ⊎-elim two (λ e. omega (arith, eqb-true n 192 e)) (either _ (eqb n 192) g)
+
+    go : ((eqb n 112 || eqb n 128 || eqb n 192) ≡ true) ⊎ (eqb n 256 ≡ true) → n < 2 ^ 16
+    go (inl g) = three g
+    go (inr e) = omega (arith, eqb-true n 256 e)
+
+used-fits : (last : ℕ) (s : Slot) → last < 2 ^ 32 → Used last s → Fits s
+used-fits last s small u =
+    record {
+      strength = four-most (s .strength) (u .strength);
+      interval = omega (arith, u .interval-most);
+      counter = omega (arith, u .counter-most, u .interval-most);
+      serial = omega (arith, u .serial-most);
+      first = u .first .bytes;
+      second = u .second .bytes;
+    }
+
+free-fits : Fits freeSlot
+free-fits = record { strength = lit< tt; interval = lit< tt; counter = lit< tt; serial = lit< tt; first = refl; second = refl }
+
+machine-withSlot : (t : Table) (i : ℕ) (s : Slot) → Machine t → Fits s → Machine (withSlot t i s)
+unfolding withSlot
+machine-withSlot t i s m new =
+    record {
+      sixteen = length-set (t .slots) i s ∙ m .sixteen;
+      fit = λ j below. ⊎-elim (λ is. subst Fits (sym is) new) (λ is. subst Fits (sym is) (m .fit j below)) (slotAt-cases t i s j);
+      last = m .last;
+    }
+
+machine-withLast : (t : Table) (serial : ℕ) → Machine t → serial < 2 ^ 32 → Machine (withLastSerial t serial)
+unfolding withLastSerial slotAt
+machine-withLast t serial m small = record { sixteen = m .sixteen; fit = m .fit; last = small }
+
+last-small : (t : Table) → Machine t → lastSerial t < 2 ^ 32
+unfolding lastSerial
+last-small t m = m .last
+
+machine-moved : {t u : Table} {hs : List ℕ} → Moves t hs u → Machine t → lastSerial u < 2 ^ 32 → Machine u
+machine-moved stays m small = m
+machine-moved {t} (adds s whole room used serial) m small =
+    machine-withLast (withSlot t (lowestFree t 0 16) s) (lastSerial t + 1)
+    (machine-withSlot t (lowestFree t 0 16) s m (used-fits (lastSerial t + 1) s (rw lastSerial-withLastSerial at small) used))
+    (rw lastSerial-withLastSerial at small)
+machine-moved {t} (steps handle s whole is used serial) m small =
+    machine-withSlot t (handle % 16) s m (used-fits (lastSerial t) s (last-small t m) used)
+machine-moved {t} (ends handle whole is) m small = machine-withSlot t (handle % 16) freeSlot m free-fits
+
+last-after : (t : Table) (c : Call) → lastSerial t < 2 ^ 32 → lastSerial (after t c) < 2 ^ 32
+unfolding stepped installed
+last-after t c small = go c (outcome t c)
+  where
+    go : (c : Call) {r : Reply} → Outcome t c r → lastSerial (r .answer .table) < 2 ^ 32
+    go c (refusing n f) = small
+    go (opens m s i f e n p) (serving none) =
+        rw lastSerial-withLastSerial (omega (arith, may-open none .serials-left))
+    go (reseeds handle e a) (serving none) = rw lastSerial-withSlot small
+    go (draws handle s o a) (serving none) = rw lastSerial-withSlot small
+    go (freshDraws handle s o e a) (serving none) = rw lastSerial-withSlot small
+    go (closes handle) (serving none) = rw lastSerial-withSlot small
+    go (inquires handle) (serving none) = small
+
+pub machine-after : (t : Table) (c : Call) → Machine t → Machine (after t c)
+machine-after t c m = machine-moved (moved t c) m (last-after t c (last-small t m))
+
+-- after a call the bytes are the table that follows
+pub after-in-bytes : (c : Call) (s : List ℕ) → Bytes s → length s ≡ 2148 → tableOf (inBytes c s .table) ≡ after (tableOf s) c
+after-in-bytes c s b sized =
+    ap (λ (d : Done). tableOf (d .table)) (sym (served-on (λ t. reply t c) s (lent c) sized refl)) ∙
+    tableOf-bytes (after (tableOf s) c) (machine-after (tableOf s) c (machine-tableOf s b sized))
+
+-- sequences: every theorem here on sequences from a fresh table speaks of the caller's own bytes, zeros at first
+all-in-bytes : (t : Table) (cs : List Call) → Machine t → inBytesAll (tableBytes t) cs ≡ map done (run t cs)
+all-in-bytes t [] m = refl
+all-in-bytes t (c ∷ cs) m =
+    let first : inBytes c (tableBytes t) ≡ done (reply t c) =
+    sym (served-on (λ u. reply u c) (tableBytes t) (lent c) (length-tableBytes t m) refl) ∙
+    ap (λ u. done (reply u c)) (tableOf-bytes t m) in
+    ap₂ _∷_ first (ap (λ (d : Done). inBytesAll (d .table) cs) first ∙ all-in-bytes (after t c) cs (machine-after t c m))
+
+pub from-zeros : (cs : List Call) → inBytesAll (replicate 2148 0) cs ≡ map done (run freshTable cs)
+from-zeros cs =
+    let zeros = bytes-replicate 2148 0 (lit< tt) in
+    ap (λ s. inBytesAll s cs) (sym (bytes-tableOf (replicate 2148 0) zeros refl) ∙ ap tableBytes fresh-bytes) ∙
+    all-in-bytes freshTable cs (subst Machine fresh-bytes (machine-tableOf (replicate 2148 0) zeros refl))

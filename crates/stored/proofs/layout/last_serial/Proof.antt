@@ -1,0 +1,13 @@
+-- Assumes nothing.
+use borrow.Author.Needs.{needs}
+use Rattle.slots.specs.Layout.{lastSerial}
+use Rattle.stored.specs.Bytes.{tableOf}
+use Rattle.stored.proofs.layout.last_serial.Statement.{statement}
+use Rattle.stored.proofs.layout.last_serial.Tie as tie
+
+returns : tie.Need-returns
+unfolding lastSerial tableOf
+returns c = c .u32-at .ensures
+
+pub last-serial-spec : {M : Type 1} → statement M
+last-serial-spec = tie.close (tie.spec (λ c κs. search needs) returns)

@@ -1,0 +1,26 @@
+// SP 800-90A §9.4: every field of the slot goes to zero.
+use crate::answers;
+use crate::answers::Told;
+use crate::handle;
+use crate::layout;
+use crate::sound;
+use slots::handle::Found;
+use slots::slot;
+ghost use mathlib.Core.Path.{_≡_};
+ghost use mathlib.Core.List.{[]};
+ghost use Rattle.table.specs.Closing.{closeOf};
+ghost use Rattle.stored.specs.Calls.{onBytes, silent};
+
+pub fn close(table: &mut [u8], handle: u64) -> Told
+    ensures { λ r. ⌜ record { told = r; table = now (table .exit); output = [] }
+        ≡ onBytes (silent (λ t. closeOf t handle)) (now (table .entry)) [] ⌝ }
+{
+    if !sound::is_sound(table) {
+        return answers::refused(1);
+    }
+    let Found::At(i) = handle::look_up(table, handle) else {
+        return answers::refused(2);
+    };
+    layout::put_slot(table, i, slot::free_slot());
+    answers::accepted(0, 0)
+}

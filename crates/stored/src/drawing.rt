@@ -1,0 +1,39 @@
+// SP 800-90A §9.3, without prediction resistance: a plain draw never reseeds.
+use crate::answers;
+use crate::answers::Told;
+use crate::handle;
+use crate::layout;
+use crate::sound;
+use drbg::generator;
+use slots::handle::Found;
+use table::answers::generator_of;
+use table::drawing;
+ghost use mathlib.Core.Path.{_≡_};
+ghost use Rattle.table.specs.Drawing.{drawOf};
+ghost use Rattle.stored.specs.Calls.{onBytes};
+
+pub fn draw(table: &mut [u8], handle: u64, strength: u64, out: &mut [u8], additional: &[u8]) -> Told
+    ensures { λ r. ⌜ record { told = r; table = now (table .exit); output = now (out .exit) }
+        ≡ onBytes (λ t. drawOf t handle strength (now (out .entry)) (now (additional .entry))) (now (table .entry)) (now (out .entry)) ⌝ }
+{
+    if !sound::is_sound(table) {
+        return answers::refused(1);
+    }
+    let Found::At(i) = handle::look_up(table, handle) else {
+        return answers::refused(2);
+    };
+    let s = layout::slot_at(table, i);
+    let n = drawing::reason(
+        s.strength,
+        s.interval,
+        s.counter,
+        strength,
+        out.len(),
+        additional.len(),
+    );
+    if n != 0 {
+        return answers::refused(n);
+    }
+    let served = generator::drawn(s.mechanism, generator_of(s), out, additional);
+    answers::stepped(table, i, s, served)
+}

@@ -1,0 +1,47 @@
+// SP 800-90A §9.3, with prediction resistance: a reseed, then a draw with no additional input. Reseed due is no reason here.
+use crate::answers;
+use crate::answers::Told;
+use crate::handle;
+use crate::layout;
+use crate::sound;
+use drbg::generator;
+use slots::handle::Found;
+use table::answers::generator_of;
+use table::fresh_drawing;
+ghost use mathlib.Core.Path.{_≡_};
+ghost use Rattle.table.specs.FreshDrawing.{freshDrawOf};
+ghost use Rattle.stored.specs.Calls.{onBytes};
+
+pub fn fresh_draw<'a>(
+    table: &mut [u8],
+    handle: u64,
+    strength: u64,
+    out: &mut [u8],
+    entropy: &'a [u8],
+    additional: &'a [u8],
+) -> Told
+    ensures { λ r. ⌜ record { told = r; table = now (table .exit); output = now (out .exit) }
+        ≡ onBytes (λ t. freshDrawOf t handle strength (now (out .entry)) (now (entropy .entry)) (now (additional .entry)))
+        (now (table .entry)) (now (out .entry)) ⌝ }
+{
+    if !sound::is_sound(table) {
+        return answers::refused(1);
+    }
+    let Found::At(i) = handle::look_up(table, handle) else {
+        return answers::refused(2);
+    };
+    let s = layout::slot_at(table, i);
+    let n = fresh_drawing::reason(
+        s.strength,
+        s.fresh,
+        strength,
+        out.len(),
+        entropy.len(),
+        additional.len(),
+    );
+    if n != 0 {
+        return answers::refused(n);
+    }
+    let served = generator::fresh_drawn(s.mechanism, generator_of(s), out, entropy, additional);
+    answers::stepped(table, i, s, served)
+}

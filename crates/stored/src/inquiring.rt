@@ -1,0 +1,25 @@
+// How many draws are left.
+use crate::answers;
+use crate::answers::Told;
+use crate::handle;
+use crate::layout;
+use crate::sound;
+use slots::handle::Found;
+ghost use mathlib.Core.Path.{_≡_};
+ghost use mathlib.Core.List.{[]};
+ghost use Rattle.table.specs.Inquiring.{inquireOf};
+ghost use Rattle.stored.specs.Calls.{onBytes, silent};
+
+pub fn inquire(table: &[u8], handle: u64) -> Told
+    ensures { λ r. ⌜ record { told = r; table = now (table .entry); output = [] }
+        ≡ onBytes (silent (λ t. inquireOf t handle)) (now (table .entry)) [] ⌝ }
+{
+    if !sound::is_sound(table) {
+        return answers::refused(1);
+    }
+    let Found::At(i) = handle::look_up(table, handle) else {
+        return answers::refused(2);
+    };
+    let s = layout::slot_at(table, i);
+    answers::accepted(0, s.interval + 1 - s.counter)
+}

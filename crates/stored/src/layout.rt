@@ -1,0 +1,43 @@
+// The table in its 2,148 bytes: 16 slots of 134, then the last serial. Only these functions know where each stands.
+use crate::numbers;
+use crate::slot;
+use slots::slot::Slot;
+ghost use mathlib.Core.Path.{_≡_};
+ghost use Prim.Native.Nat.{_<_};
+ghost use lib.ListN.{length};
+ghost use Rattle.slots.specs.Layout.{slotAt, withSlot, lastSerial, withLastSerial};
+ghost use Rattle.stored.specs.Bytes.{tableOf, tableBytes};
+
+pub fn slot_at(table: &[u8], i: usize) -> Slot
+    requires { ⌜ (length (now table) ≡ 2148) × (i < 16) ⌝ }
+    ensures { λ r. ⌜ r ≡ slotAt (tableOf (now (table .entry))) i ⌝ }
+{
+    let at = 134 * i;
+    let end = at + 134;
+    slot::slot_from(&table[at..end])
+}
+
+pub fn put_slot(table: &mut [u8], i: usize, s: Slot)
+    requires { ⌜ (length (now table) ≡ 2148) × (i < 16) ⌝ }
+    ensures { λ _. ⌜ now (table .exit) ≡ tableBytes (withSlot (tableOf (now (table .entry))) i s) ⌝ }
+{
+    let at = 134 * i;
+    let end = at + 134;
+    slot::put(&mut table[at..end], s);
+}
+
+pub fn last_serial(table: &[u8]) -> u32
+    requires { ⌜ length (now table) ≡ 2148 ⌝ }
+    ensures { λ r. ⌜ r ≡ lastSerial (tableOf (now (table .entry))) ⌝ }
+{
+    numbers::u32_at(table, 2144)
+}
+
+// A new generator in slot i, with its serial as the last one.
+pub fn put_new_slot(table: &mut [u8], i: usize, serial: u32, s: Slot)
+    requires { ⌜ (length (now table) ≡ 2148) × (i < 16) ⌝ }
+    ensures { λ _. ⌜ now (table .exit) ≡ tableBytes (withLastSerial (withSlot (tableOf (now (table .entry))) i s) serial) ⌝ }
+{
+    put_slot(table, i, s);
+    numbers::put_u32(table, 2144, serial);
+}

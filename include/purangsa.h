@@ -1,0 +1,106 @@
+/* Purangsa: NIST SP 800-90A generators, HMAC_DRBG and Hash_DRBG over SHA-256, sixteen of them in a table that the caller keeps.
+ *
+ * Link target/staticlib/libcapi.a, which `rt staticlib capi` proves and writes; it needs nothing but memcpy and memset. x86-64 Linux.
+ *
+ * The table is PURANGSA_TABLE_LENGTH bytes of the caller's, anywhere, in no alignment. All bytes zero is the fresh table. Whoever
+ * keeps the bytes keeps the generators: they may be copied, stored and brought back, and they are as secret as what is drawn.
+ * Slot i, of 0 to 15, begins at 134 * i; numbers stand with their lowest byte first, and there is no gap:
+ *
+ *     0  mechanism  1 byte: 0 free, 1 HMAC_DRBG, 2 Hash_DRBG      19  fresh    1 byte: 1 with the right to fresh draws
+ *     1  strength   2 bytes                                       20  serial   4 bytes
+ *     3  interval   8 bytes                                       24  first    55 bytes: K, or V
+ *    11  counter    8 bytes                                       79  second   55 bytes: V, or C
+ *
+ * and at 2144 the last serial that was given, 4 bytes.
+ *
+ * Answers. Each function returns a number: 0 is served, and else it is the first of these that holds, in the function's own order:
+ *
+ *     1  the table is unsound, or is not of that length     8  entropy below strength / 8 bytes or above 1,024
+ *     2  the handle names no generator                      9  nonce not 8 to 64 bytes
+ *     3  mechanism neither 1 nor 2                         10  request above 65,536 bytes
+ *     4  strength above 256, or above the generator's      11  fresh draw without that right
+ *     5  interval not 1 to 2^48                            12  reseed due
+ *     6  personalization above 512 bytes                   13  no free slot
+ *     7  additional input above 1,024 bytes                14  serials used up
+ *
+ * Promised, and proved for all arguments, whatever the table's bytes are:
+ *  - the function ends, and returns what its definition gives on the table that the bytes are: the number, *blocks, *value, every
+ *    byte of the table and every byte of the output;
+ *  - refused (not 0), no byte of the table or of the output is changed, and *blocks and *value are 0;
+ *  - served, only the generator's own slot is changed (by purangsa_open the last serial too), *blocks is the number of SHA-256
+ *    compressions that the standard's definition takes, and *value is what is said below, or 0.
+ *
+ * Owed by the caller, for the length of the call:
+ *  - a pointer with a length n above 0 is good for n bytes, to be read, and for the table and the output to be written;
+ *    blocks and value point to a uint64_t each. No pointer is tested, for NULL or anything else. Where the length is 0 nothing is
+ *    read or written through the pointer and it may be NULL: so it is in the compiled code, and it was tried; it is no theorem.
+ *  - table, output, *blocks and *value overlap nothing else that is lent in the same call. The strings are only read: they may
+ *    overlap each other.
+ *  - nothing else writes what is lent, or reads the table, the output, *blocks or *value.
+ * The library keeps nothing of its own between calls, and takes nothing from anywhere but its arguments: calls on different tables
+ * may run at the same time, calls on one table one after the other.
+ *
+ * Not promised:
+ *  - that entropy has any: bytes are taken as they come, by their number alone;
+ *  - that no copy is left: K, V, C and what is derived from them pass through the stack and the registers, and are not wiped.
+ *    purangsa_close sets the slot's bytes in the table to zero, and no other copy of them;
+ *  - that the same time is taken: lengths, numbers and answers are not secret, and time shows them.
+ */
+#ifndef PURANGSA_H
+#define PURANGSA_H
+
+#include <stddef.h>
+#include <stdint.h>
+
+#ifdef __cplusplus
+extern "C" {
+#endif
+
+enum { PURANGSA_TABLE_LENGTH = 2148 };
+
+/* Opens a generator in the lowest free slot. mechanism: 1 or 2; strength is rounded up to 112, 128, 192 or 256; interval: the draws
+ * between two reseeds; fresh: 0, or anything else for the right to fresh draws. Served, *value is the handle.
+ * 1, 3, 4, 5, 6, 8, 9, 13, 14. */
+uint64_t purangsa_open(uint8_t *table, size_t table_length,
+                       uint64_t mechanism, uint64_t strength, uint64_t interval, uint64_t fresh,
+                       const uint8_t *entropy, size_t entropy_length,
+                       const uint8_t *nonce, size_t nonce_length,
+                       const uint8_t *personalization, size_t personalization_length,
+                       uint64_t *blocks, uint64_t *value);
+
+/* Reseeds the generator.
+ * 1, 2, 7, 8. */
+uint64_t purangsa_reseed(uint8_t *table, size_t table_length, uint64_t handle,
+                         const uint8_t *entropy, size_t entropy_length,
+                         const uint8_t *additional, size_t additional_length,
+                         uint64_t *blocks, uint64_t *value);
+
+/* Fills the output, whose length is the request. A plain draw never reseeds.
+ * 1, 2, 10, 4, 7, 12. */
+uint64_t purangsa_draw(uint8_t *table, size_t table_length, uint64_t handle, uint64_t strength,
+                       const uint8_t *additional, size_t additional_length,
+                       uint8_t *output, size_t output_length,
+                       uint64_t *blocks, uint64_t *value);
+
+/* Reseeds the generator with the entropy and the additional input, then fills the output, as one call: all or nothing. It is served
+ * also when a reseed is due.
+ * 1, 2, 10, 4, 7, 11, 8. */
+uint64_t purangsa_fresh_draw(uint8_t *table, size_t table_length, uint64_t handle, uint64_t strength,
+                             const uint8_t *entropy, size_t entropy_length,
+                             const uint8_t *additional, size_t additional_length,
+                             uint8_t *output, size_t output_length,
+                             uint64_t *blocks, uint64_t *value);
+
+/* Ends the generator: every byte of its slot goes to zero, and its handle names nothing ever after.
+ * 1, 2. */
+uint64_t purangsa_close(uint8_t *table, size_t table_length, uint64_t handle, uint64_t *blocks, uint64_t *value);
+
+/* Served, *value is the number of draws that are left before a reseed is due. The table is only read.
+ * 1, 2. */
+uint64_t purangsa_inquire(const uint8_t *table, size_t table_length, uint64_t handle, uint64_t *blocks, uint64_t *value);
+
+#ifdef __cplusplus
+}
+#endif
+
+#endif
