@@ -91,15 +91,39 @@ def open_call(table, mechanism, strength, interval, fresh_right, entropy, nonce,
     return Answer(SERVED, after, blocks=hasher.blocks, value=handle_of(serial, place))
 
 
+# What every call with a handle asks first, and both kinds of draw next
+
+def lookup_refusal(table, handle):
+    """Order of checks: 1, 2."""
+    if not sound(table):
+        return TABLE_UNSOUND
+    if generator(table, handle) is None:
+        return NO_SUCH_GENERATOR
+    return SERVED
+
+
+def request_refusal(table, handle, strength, output, additional):
+    """Order of checks: 1, 2, 10, 4, 7."""
+    reason = lookup_refusal(table, handle)
+    if reason != SERVED:
+        return reason
+    if len(output) > MOST_REQUEST:
+        return REQUEST_TOO_LONG
+    if strength > generator(table, handle).strength:
+        return STRENGTH_TOO_HIGH
+    if len(additional) > MOST_ADDITIONAL:
+        return ADDITIONAL_TOO_LONG
+    return SERVED
+
+
 # Reseed (section 9.2)
 
 def reseed_refusal(table, handle, entropy, additional):
     """Order of checks: 1, 2, 7, 8."""
-    if not sound(table):
-        return TABLE_UNSOUND
+    reason = lookup_refusal(table, handle)
+    if reason != SERVED:
+        return reason
     slot = generator(table, handle)
-    if slot is None:
-        return NO_SUCH_GENERATOR
     if len(additional) > MOST_ADDITIONAL:
         return ADDITIONAL_TOO_LONG
     if not entropy_fits(entropy, slot.strength):
@@ -122,18 +146,10 @@ def reseed_call(table, handle, entropy, additional):
 
 def draw_refusal(table, handle, strength, output, additional):
     """Order of checks: 1, 2, 10, 4, 7, 12."""
-    if not sound(table):
-        return TABLE_UNSOUND
-    slot = generator(table, handle)
-    if slot is None:
-        return NO_SUCH_GENERATOR
-    if len(output) > MOST_REQUEST:
-        return REQUEST_TOO_LONG
-    if strength > slot.strength:
-        return STRENGTH_TOO_HIGH
-    if len(additional) > MOST_ADDITIONAL:
-        return ADDITIONAL_TOO_LONG
-    if reseed_due(slot):
+    reason = request_refusal(table, handle, strength, output, additional)
+    if reason != SERVED:
+        return reason
+    if reseed_due(generator(table, handle)):
         return RESEED_DUE
     return SERVED
 
@@ -155,17 +171,10 @@ def draw_call(table, handle, strength, output, additional):
 
 def fresh_draw_refusal(table, handle, strength, output, entropy, additional):
     """Order of checks: 1, 2, 10, 4, 7, 11, 8. Reseed due (12) is no reason here."""
-    if not sound(table):
-        return TABLE_UNSOUND
+    reason = request_refusal(table, handle, strength, output, additional)
+    if reason != SERVED:
+        return reason
     slot = generator(table, handle)
-    if slot is None:
-        return NO_SUCH_GENERATOR
-    if len(output) > MOST_REQUEST:
-        return REQUEST_TOO_LONG
-    if strength > slot.strength:
-        return STRENGTH_TOO_HIGH
-    if len(additional) > MOST_ADDITIONAL:
-        return ADDITIONAL_TOO_LONG
     if slot.fresh == 0:
         return NO_FRESH_RIGHT
     if not entropy_fits(entropy, slot.strength):
@@ -188,15 +197,6 @@ def fresh_draw_call(table, handle, strength, output, entropy, additional):
 
 
 # Close (section 9.4) and inquire
-
-def lookup_refusal(table, handle):
-    """Order of checks: 1, 2."""
-    if not sound(table):
-        return TABLE_UNSOUND
-    if generator(table, handle) is None:
-        return NO_SUCH_GENERATOR
-    return SERVED
-
 
 def close_call(table, handle):
     reason = lookup_refusal(table, handle)

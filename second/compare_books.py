@@ -1,9 +1,9 @@
 """python3 second/compare_books.py PROGRAM [SEED]: the program beside the second program.
 
-Runs the program on the stored books, on NIST's DRBG cases as books, on random books, on a
-book that comes in small pieces, and on a small stack. It must print what is stored, what
-NIST published, and what the second program prints, byte for byte. SEED repeats the random
-books of an earlier run. A book that fails is kept in target/failed/.
+Runs the program on NIST's DRBG cases as books, on random books, on a stored book that comes
+in small pieces, and on a small stack. It must print what NIST published and what the second
+program prints, byte for byte. SEED repeats the random books of an earlier run. A book that
+fails is kept in target/failed/. (On the stored books the program `books` runs the same code.)
 """
 
 import pathlib
@@ -16,16 +16,15 @@ import time
 from book import record_bytes
 from calls import LEAST_NONCE, MOST_ADDITIONAL, MOST_ENTROPY, MOST_NONCE, MOST_PERSONALIZATION
 from check_drbg import CHECKS, DRAWS, opening as opening_strings, steps_of
-from make_books import BOOKS, SPOILED, output_of
+from make_books import CRATE, output_of
 from mechanisms import HASH_DRBG, HMAC_DRBG
 from random_books import random_book
 from records import DRAW, MOST_BOOK, RESEED
-from spoiled import books_in
 from tally import Tally
 from vectors import PUBLISHED, cases
 from writer import Writer, close, draw, fresh_draw, inquire, reseed
 
-FAILED = BOOKS.parent / "target" / "failed"
+FAILED = CRATE.parent.parent / "target" / "failed"
 SLOTS = 16
 RANDOM_BOOKS = 600
 STACK = 1024 * 1024
@@ -61,20 +60,6 @@ def keep(name, book):
     FAILED.mkdir(parents=True, exist_ok=True)
     safe = "".join(sign if sign.isalnum() else "-" for sign in name)
     (FAILED / f"{safe}.book").write_bytes(book)
-
-
-# The stored books
-
-def stored_books():
-    """As (name, book, output)."""
-    for path in sorted(BOOKS.glob("*.book")):
-        yield path.stem, path.read_bytes(), path.with_suffix(".lines").read_bytes()
-    yield from books_in((BOOKS / SPOILED).read_text())
-
-
-def compare_stored(program):
-    for name, book, expected in stored_books():
-        program.prints(f"stored book {name}", book, expected)
 
 
 # NIST's cases
@@ -181,10 +166,9 @@ def in_pieces(path, book, size):
 
 def compare_pieces(program):
     for name, size in (("example", 1), ("interleaved", 7), ("longest-book", 1000), ("too-long", 1000)):
-        book = (BOOKS / f"{name}.book").read_bytes()
-        expected = (BOOKS / f"{name}.lines").read_bytes()
+        book = (CRATE / "data" / f"{name}.book").read_bytes()
         output = in_pieces(program.path, book, size)
-        program.note(output == expected, f"stored book {name} in pieces of {size}", book)
+        program.note(output == output_of(book), f"stored book {name} in pieces of {size}", book)
 
 
 def compare_far_too_long(program):
@@ -221,7 +205,6 @@ def main(path, seed):
     if not pathlib.Path(path).is_file():
         raise SystemExit(f"compare_books.py: there is no program {path}")
     program = Program(path)
-    counted(program, "stored books", lambda: compare_stored(program))
     counted(program, "NIST's cases as books", lambda: compare_nist(program))
     counted(program, "random books", lambda: compare_random(program, seed))
     counted(program, "books in pieces", lambda: compare_pieces(program))

@@ -1,23 +1,23 @@
-"""python3 second/make_books.py [--check]: the books of the gate, with their lines.
+"""python3 second/make_books.py [--check]: what the program `books` is run on.
 
-Writes books/: NAME.book with NAME.lines, what a run of it prints, and spoiled.txt with the
-spoiled books (spoiled.py). The lines are the second program's; the program must print the
-same. --check writes nothing and compares all of it with what stands there.
+Writes crates/books/data/, the stored books, the spoiled ones (spoiled.py) in a folder of
+their own; args, their names; and stdout, what the program must print: each book's name and
+its lines, which are the second program's. --check writes nothing and compares all of it
+with what stands there.
 """
 
 import pathlib
-import sys
+import re
 
+from made_files import command
 from mechanisms import HASH_DRBG, HMAC_DRBG
 from records import MOST_BOOK
 from run import lines_of
-from spoiled import spoiled_books, text_of_books
+from spoiled import spoiled_books
 from table import LONGEST_INTERVAL
-from tally import Tally
 from writer import Writer, close, draw, filler, fresh_draw, inquire, opening, reseed
 
-BOOKS = pathlib.Path(__file__).resolve().parent.parent / "books"
-SPOILED = "spoiled.txt"
+CRATE = pathlib.Path(__file__).resolve().parent.parent / "crates" / "books"
 BOTH = (HMAC_DRBG, HASH_DRBG)
 LEAST_ENTROPY = {112: 14, 128: 16, 192: 24, 256: 32}
 
@@ -226,47 +226,33 @@ def output_of(book):
     return "".join(f"{line}\n" for line in lines_of(book)).encode()
 
 
-def made():
-    """The folder's files, by their names."""
-    files = {}
+def file_of(name):
+    """A file for a spoiled book: its name's letters and digits."""
+    return f"spoiled/{'-'.join(re.findall('[A-Za-z0-9]+', name))}.book"
+
+
+def books():
+    """By their files' names."""
+    found = {}
     for name, write_calls in WRITERS.items():
         writer = Writer()
         write_calls(writer)
-        files[f"{name}.book"] = writer.book
-        files[f"{name}.lines"] = output_of(writer.book)
-    files[SPOILED] = text_of_books(spoiled_books()).encode()
-    return files
+        found[f"{name}.book"] = writer.book
+    for name, book in spoiled_books():
+        assert file_of(name) not in found
+        found[file_of(name)] = book
+    return found
 
 
-def stored():
-    return [path.relative_to(BOOKS).as_posix() for path in BOOKS.rglob("*") if path.is_file()]
+def made():
+    """The crate's files for its run, by their names."""
+    found = books()
+    return {
+        **{f"data/{name}": book for name, book in found.items()},
+        "args": "".join(f"{name}\n" for name in found).encode(),
+        "stdout": b"".join(f"{name}\n".encode() + output_of(book) for name, book in found.items()),
+    }
 
-
-def write():
-    BOOKS.mkdir(exist_ok=True)
-    for name in stored():
-        (BOOKS / name).unlink()
-    for name, text in made().items():
-        (BOOKS / name).write_bytes(text)
-    return 0
-
-
-def check():
-    tally = Tally()
-    files = made()
-    for name, text in files.items():
-        path = BOOKS / name
-        tally.note(path.is_file() and path.read_bytes() == text, f"books/{name} is not as made")
-    for name in stored():
-        if name not in files:
-            tally.note(False, f"books/{name} is not made here")
-    print(tally.line())
-    return tally.status()
-
-
-COMMANDS = {(): write, ("--check",): check}
 
 if __name__ == "__main__":
-    if tuple(sys.argv[1:]) not in COMMANDS:
-        raise SystemExit("usage: make_books.py [--check]")
-    sys.exit(COMMANDS[tuple(sys.argv[1:])]())
+    command(CRATE, ["data", "args", "stdout"], made)

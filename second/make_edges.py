@@ -5,14 +5,13 @@ The same calls as crates/edges/src/main.rt makes, on the second program's table.
 
 import hashlib
 import pathlib
-import sys
 from dataclasses import replace
 
 from calls import close_call, draw_call, fresh_draw_call, inquire_call, open_call, reseed_call
+from made_files import command
 from table import FRESH_TABLE, with_slot
-from tally import Tally
 
-STDOUT = pathlib.Path(__file__).resolve().parent.parent / "crates/edges/stdout"
+CRATE = pathlib.Path(__file__).resolve().parent.parent / "crates" / "edges"
 
 
 def answer(name, a):
@@ -73,7 +72,7 @@ def unsound(k):
     return six_calls(with_slot(table, place, spoiled(k, table.slots[place])))
 
 
-def made():
+def lines():
     yield from requests(1)
     yield from requests(2)
     yield answer(31, open_with(FRESH_TABLE, 1, 256, 31))
@@ -85,25 +84,9 @@ def made():
         yield from unsound(k)
 
 
-def check():
-    tally = Tally()
-    stored = STDOUT.read_text().splitlines()
-    lines = list(made())
-    tally.note(len(stored) == len(lines), f"{len(stored)} lines are stored, and {len(lines)} made")
-    for i, (kept, line) in enumerate(zip(stored, lines)):
-        tally.note(kept == line, f"line {i + 1}: {kept!r} is stored, and {line!r} made")
-    print(tally.line())
-    return tally.status()
+def made():
+    return {"stdout": "".join(f"{line}\n" for line in lines()).encode()}
 
-
-def write():
-    STDOUT.write_text("".join(line + "\n" for line in made()))
-    return 0
-
-
-COMMANDS = {(): write, ("--check",): check}
 
 if __name__ == "__main__":
-    if tuple(sys.argv[1:]) not in COMMANDS:
-        raise SystemExit("usage: make_edges.py [--check]")
-    sys.exit(COMMANDS[tuple(sys.argv[1:])]())
+    command(CRATE, ["stdout"], made)

@@ -7,10 +7,9 @@ of it with what stands there.
 """
 
 import pathlib
-import sys
 
 from hashing import blocks_of, padded
-from tally import Tally
+from made_files import command
 from vectors import PUBLISHED, cases
 
 CRATE = pathlib.Path(__file__).resolve().parent.parent / "crates" / "hashes"
@@ -34,38 +33,5 @@ def made():
     return {**data, "args": args.encode(), "stdout": stdout.encode()}
 
 
-def stored():
-    """The names of those that stand there."""
-    found = [path for path in (CRATE / "data").rglob("*") if path.is_file()]
-    found += [path for path in (CRATE / "args", CRATE / "stdout") if path.is_file()]
-    return [path.relative_to(CRATE).as_posix() for path in found]
-
-
-def write():
-    for name in stored():
-        (CRATE / name).unlink()
-    (CRATE / "data").mkdir(exist_ok=True)
-    for name, text in made().items():
-        (CRATE / name).write_bytes(text)
-    return 0
-
-
-def check():
-    tally = Tally()
-    files = made()
-    for name, text in files.items():
-        path = CRATE / name
-        tally.note(path.is_file() and path.read_bytes() == text, f"{path} is not as made")
-    for name in stored():
-        if name not in files:
-            tally.note(False, f"{CRATE / name} is not made here")
-    print(tally.line())
-    return tally.status()
-
-
-COMMANDS = {(): write, ("--check",): check}
-
 if __name__ == "__main__":
-    if tuple(sys.argv[1:]) not in COMMANDS:
-        raise SystemExit("usage: make_hashes.py [--check]")
-    sys.exit(COMMANDS[tuple(sys.argv[1:])]())
+    command(CRATE, ["data", "args", "stdout"], made)

@@ -1,16 +1,7 @@
-"""Every way of spoiling a book, and the text that keeps such books with their lines.
-
-In the text a book is a name after '#', its bytes in hex, and its lines after '>':
-
-    # inquire cut after 1 byte
-    061006
-    > 6 2 0 -
-    > book 2
-"""
+"""Every way of spoiling a book."""
 
 from book import number_bytes, record_bytes
 from records import FIELDS, MOST, STRING
-from run import lines_of
 from text import NAMES, counted
 from writer import close, draw, filler, fresh_draw, inquire, opening, reseed
 
@@ -114,24 +105,3 @@ def spoiled_books():
     """Pairs of name and book."""
     for part in (cut, numbers, fields, long_strings, places):
         yield from part()
-
-
-def text_of_books(books):
-    text = ""
-    for name, book in books:
-        text += f"# {name}\n{book.hex()}\n"
-        text += "".join(f"> {line}\n" for line in lines_of(book))
-    return text
-
-
-def books_in(text):
-    """What text_of_books wrote, as (name, book, output)."""
-    found = []
-    for line in text.splitlines():
-        if line.startswith("# "):
-            found.append([line[2:], b"", ""])
-        elif line.startswith("> "):
-            found[-1][2] += line[2:] + "\n"
-        else:
-            found[-1][1] = bytes.fromhex(line)
-    return [(name, book, output.encode()) for name, book, output in found]

@@ -1,0 +1,230 @@
+// Runs a call book from a fresh table: a line for each record. All but the writing itself is promised by what a run prints
+// (specs/Run.antt).
+use book::line;
+use book::record;
+use book::record::Record;
+use book::record::RecordAt;
+use book::string;
+use book::string::Part;
+use libc::STDOUT_FILENO;
+use stored::answers::Told;
+use stored::calls;
+ghost use mathlib.Core.Path.{_≡_};
+ghost use mathlib.Core.List.{[], _++_};
+ghost use Prim.Native.Nat.{_+_, _≤_, _<_};
+ghost use lib.ListN.{length, take};
+ghost use Rattle.book.specs.Strings.{bytesOf};
+ghost use Rattle.book.specs.Lines.{line};
+ghost use Rattle.book.specs.Records.{draws, draws-fresh, Fits, meaningOf};
+ghost use Rattle.book.specs.Writing.{Appends};
+ghost use Rattle.book.proofs.Records.{PartsIn};
+ghost use Rattle.runner.specs.Run.{Ran, left};
+
+// Each of these appends its record's line at a place of the text, and says where it ends.
+fn run_draw(
+    table: &mut [u8],
+    book: &[u8],
+    handle: u64,
+    strength: u64,
+    request: u64,
+    additional: Part,
+    out: &mut [u8],
+    text: &mut [u8],
+    at: usize,
+) -> usize
+    requires { ⌜ (additional .start + additional .length ≤ length (now book)) × (request ≤ 65536) ⌝ }
+    requires { ⌜ (length (now out) ≡ 65536) × (at + 131156 ≤ length (now text)) ⌝ }
+    ensures { λ end. ⌜ Ran (now (table .entry)) (draws handle strength request (bytesOf (now (book .entry)) additional))
+        (now (text .entry)) at end (now (text .exit)) (now (table .exit)) ⌝ }
+{
+    let n = request as usize;
+    let told = calls::draw(
+        table,
+        handle,
+        strength,
+        &mut out[..n],
+        string::bytes_of(book, additional),
+    );
+    line::line(text, at, 3, told.number, told.blocks, told.value, &out[..n])
+}
+
+fn run_fresh_draw(
+    table: &mut [u8],
+    book: &[u8],
+    handle: u64,
+    strength: u64,
+    request: u64,
+    entropy: Part,
+    additional: Part,
+    out: &mut [u8],
+    text: &mut [u8],
+    at: usize,
+) -> usize
+    requires { ⌜ (entropy .start + entropy .length ≤ length (now book)) × (additional .start + additional .length ≤ length (now book)) × (request ≤ 65536) ⌝ }
+    requires { ⌜ (length (now out) ≡ 65536) × (at + 131156 ≤ length (now text)) ⌝ }
+    ensures { λ end. ⌜ Ran (now (table .entry))
+        (draws-fresh handle strength request (bytesOf (now (book .entry)) entropy) (bytesOf (now (book .entry)) additional))
+        (now (text .entry)) at end (now (text .exit)) (now (table .exit)) ⌝ }
+{
+    let n = request as usize;
+    let lent = string::bytes_of(book, entropy);
+    let told = calls::fresh_draw(
+        table,
+        handle,
+        strength,
+        &mut out[..n],
+        lent,
+        string::bytes_of(book, additional),
+    );
+    line::line(text, at, 4, told.number, told.blocks, told.value, &out[..n])
+}
+
+// A call that draws nothing has told all.
+fn told_line(text: &mut [u8], at: usize, kind: u64, told: Told) -> usize
+    requires { ⌜ at + 84 ≤ length (now text) ⌝ }
+    ensures { λ end. ⌜ Appends (now (text .entry)) at (line kind (told .number) (told .blocks) (told .value) []) end (now (text .exit)) ⌝ }
+{
+    line::line(text, at, kind, told.number, told.blocks, told.value, b"")
+}
+
+fn run_record(
+    table: &mut [u8],
+    book: &[u8],
+    r: Record,
+    out: &mut [u8],
+    text: &mut [u8],
+    at: usize,
+) -> usize
+    requires { ⌜ Fits (meaningOf (now book) r) × PartsIn (now book) r ⌝ }
+    requires { ⌜ (length (now out) ≡ 65536) × (at + 131156 ≤ length (now text)) ⌝ }
+    ensures { λ end. ⌜ Ran (now (table .entry)) (meaningOf (now (book .entry)) r) (now (text .entry)) at end (now (text .exit)) (now (table .exit)) ⌝ }
+{
+    match r {
+        Record::Open {
+            mechanism,
+            strength,
+            interval,
+            fresh,
+            entropy,
+            nonce,
+            personalization,
+        } => {
+            let lent = string::bytes_of(book, entropy);
+            let once = string::bytes_of(book, nonce);
+            let told = calls::open(
+                table,
+                mechanism,
+                strength,
+                interval,
+                fresh == 1,
+                lent,
+                once,
+                string::bytes_of(book, personalization),
+            );
+            told_line(text, at, 1, told)
+        }
+        Record::Reseed {
+            handle,
+            entropy,
+            additional,
+        } => {
+            let lent = string::bytes_of(book, entropy);
+            let told = calls::reseed(table, handle, lent, string::bytes_of(book, additional));
+            told_line(text, at, 2, told)
+        }
+        Record::Draw {
+            handle,
+            strength,
+            length,
+            additional,
+        } => {
+            run_draw(
+                table,
+                book,
+                handle,
+                strength,
+                length,
+                additional,
+                out,
+                text,
+                at,
+            )
+        }
+        Record::FreshDraw {
+            handle,
+            strength,
+            length,
+            entropy,
+            additional,
+        } => {
+            run_fresh_draw(
+                table,
+                book,
+                handle,
+                strength,
+                length,
+                entropy,
+                additional,
+                out,
+                text,
+                at,
+            )
+        }
+        Record::Close { handle } => told_line(text, at, 5, calls::close(table, handle)),
+        Record::Inquire { handle } => told_line(text, at, 6, calls::inquire(table, handle)),
+    }
+}
+
+// Where the lines end in the text, and where the next record begins in the book.
+pub struct Piece {
+    pub end: usize,
+    pub next: usize,
+}
+
+// The records from a place on, until the text has 4,096 bytes or more: the room behind them is that of the longest line.
+fn run_some(table: &mut [u8], book: &[u8], from: usize, out: &mut [u8], text: &mut [u8]) -> Piece
+    requires { ⌜ (length (now out) ≡ 65536) × (length (now text) ≡ 135252) ⌝ }
+    ensures prints { λ r. ⌜ left (now (table .entry)) (now (book .entry)) from
+        ≡ take (r .end) (now (text .exit)) ++ left (now (table .exit)) (now (book .entry)) (r .next) ⌝ }
+    ensures within { λ r. ⌜ (r .end ≤ 135252) × (from < length (now (book .entry)) → from < r .next) ⌝ }
+{
+    let mut at = from;
+    let mut end = 0;
+    while at < book.len() {
+        let RecordAt::Found(r, next) = record::record_at(book, at) else {
+            let last = line::bad_line(text, end, at as u64);
+            return Piece {
+                end: last,
+                next: book.len(),
+            };
+        };
+        end = run_record(table, book, r, out, text, end);
+        at = next;
+        if 4096 <= end {
+            return Piece { end, next: at };
+        }
+    }
+    Piece { end, next: at }
+}
+
+fn run_book(book: &[u8]) {
+    let mut table = [0u8; 2148];
+    let mut out = [0u8; 65536];
+    let mut text = [0u8; 135252];
+    let mut at = 0;
+    while at < book.len() {
+        let ran = run_some(&mut table, book, at, &mut out, &mut text);
+        let end = ran.end;
+        io::write_all(STDOUT_FILENO, &text[..end]);
+        at = ran.next;
+    }
+}
+
+// The whole book, of any size: above 65,536 bytes nothing of it is run.
+pub fn run(book: &[u8]) {
+    if 65536 < book.len() {
+        io::write_all(STDOUT_FILENO, b"book 0\n");
+        return;
+    }
+    run_book(book);
+}
