@@ -7,23 +7,23 @@ from records import CLOSE, DRAW, FRESH_DRAW, INQUIRE, MOST_BOOK, OPEN, RESEED, B
 from table import FRESH_TABLE
 
 
-def performed(table, record):
-    """The answer to the record's call. A draw is lent as many zero bytes as it asks for."""
+def performed(table, record, lent=None):
+    """The answer to the record's call. A draw is lent this output, or as many zero bytes as it asks for."""
     kind, field = record
+    if lent is None:
+        lent = bytes(field.get("length", 0))
     if kind == OPEN:
         return open_call(
-            table, field["mechanism"], field["strength"], field["interval"], field["fresh"] == 1,
+            table, field["mechanism"], field["strength"], field["interval"], field["fresh"] != 0,
             field["entropy"], field["nonce"], field["personalization"])
     if kind == RESEED:
         return reseed_call(table, field["handle"], field["entropy"], field["additional"])
     if kind == DRAW:
         return draw_call(
-            table, field["handle"], field["strength"], bytes(field["length"]),
-            field["additional"])
+            table, field["handle"], field["strength"], lent, field["additional"])
     if kind == FRESH_DRAW:
         return fresh_draw_call(
-            table, field["handle"], field["strength"], bytes(field["length"]),
-            field["entropy"], field["additional"])
+            table, field["handle"], field["strength"], lent, field["entropy"], field["additional"])
     if kind == CLOSE:
         return close_call(table, field["handle"])
     assert kind == INQUIRE

@@ -1,0 +1,243 @@
+"""Calls on a table in bytes: the ones on both sides of each limit, and ones drawn by lot, on tables sound and spoiled."""
+
+from dataclasses import replace
+
+from answers import SERVED
+from make_edges import spoiled
+from records import CLOSE, DRAW, FRESH_DRAW, OPEN, RESEED
+from run import performed
+from stored import SLOT, TABLE_BYTES, slot_bytes, table_bytes, table_of
+from table import FRESH_TABLE, LARGEST_SERIAL, LONGEST_INTERVAL, SLOTS
+from writer import close, draw, filler, fresh_draw, inquire, opening, reseed
+
+BOTH = (1, 2)
+CLAUSES = range(19)     # of soundness, each broken by `spoiled`: of a used slot up to 11, of a free one from 12 on
+FREE = 12
+
+LENGTHS = (0, 1, 16, 31, 32, 33, 55, 56, 63, 64, 65, 1023, 1024, 1025)
+LONG = (65535, 65536, 65537)
+ENTROPY = (0, 13, 14, 15, 16, 23, 24, 31, 32, 33, 55, 56, 64, 1023, 1024, 1025, 65536, 65537)
+NONCE = (0, 7, 8, 9, 16, 55, 56, 63, 64, 65, 1024)
+PERSONALIZATION = (0, 1, 23, 55, 56, 64, 511, 512, 513, 1025, 65537)
+ADDITIONAL = (0, 1, 22, 23, 55, 56, 63, 64, 1023, 1024, 1025, 65537)
+
+# Numbers at the limits, and numbers that would be good ones if they were cut to a field's width
+MECHANISMS = (0, 1, 2, 3, 257, 2**32 + 1, 2**64 - 1)
+STRENGTHS = (0, 1, 112, 113, 128, 129, 192, 193, 256, 257, 65536 + 112, 2**32, 2**64 - 1)
+INTERVALS = (0, 1, 2, 3, 2**48 - 1, 2**48, 2**48 + 1, 2**64 - 1)
+FRESH = (0, 1, 2, 256, 2**32, 2**63, 2**64 - 1)
+STRANGE_HANDLES = (0, 1, 15, 16, 17, 2**32 + 16, 2**36, 2**36 + 16, 2**64 - 1)
+TABLE_LENGTHS = (0, 1, SLOT.size, TABLE_BYTES - 1, TABLE_BYTES + 1, 2 * TABLE_BYTES, 65536)
+FIRST_HANDLE = 16
+
+
+# The limits, one by one
+
+def opened(mechanism, **settings):
+    """A table whose one generator has the first handle."""
+    return performed(FRESH_TABLE, opening(mechanism=mechanism, **settings)).table
+
+
+def openings():
+    for mechanism in MECHANISMS:
+        yield opening(mechanism=mechanism)
+    for mechanism in BOTH:
+        yield from (opening(mechanism, strength=number) for number in STRENGTHS)
+        yield from (opening(mechanism, interval=number) for number in INTERVALS)
+        yield from (opening(mechanism, fresh=number) for number in FRESH)
+        yield from (opening(mechanism, strength, entropy=filler(count)) for strength in (0, 128, 192, 256) for count in ENTROPY)
+        yield from (opening(mechanism, nonce=filler(count)) for count in NONCE)
+        yield from (opening(mechanism, personalization=filler(count)) for count in PERSONALIZATION)
+
+
+def calls_on(handle):
+    """All but openings."""
+    for count in ENTROPY:
+        yield reseed(handle, filler(count))
+        yield fresh_draw(handle, 16, entropy=filler(count))
+    for count in ADDITIONAL:
+        yield reseed(handle, additional=filler(count))
+        yield draw(handle, 16, additional=filler(count))
+        yield fresh_draw(handle, 16, additional=filler(count))
+    for number in STRENGTHS:
+        yield draw(handle, 16, number)
+        yield fresh_draw(handle, 16, number)
+    for length in LENGTHS + LONG:
+        yield draw(handle, length)
+        yield fresh_draw(handle, length)
+    for number in (handle,) + STRANGE_HANDLES:
+        yield close(number)
+        yield inquire(number)
+
+
+def six_calls(handle):
+    return opening(), reseed(handle), draw(handle, 33), fresh_draw(handle, 33), close(handle), inquire(handle)
+
+
+def full_table():
+    table = FRESH_TABLE
+    for place in range(SLOTS):
+        table = performed(table, opening(mechanism=1 + place % 2)).table
+    return table
+
+
+def spoiled_tables():
+    """Each clause of soundness broken in a table of one generator, and in the last slot of a full one."""
+    for mechanism in BOTH:
+        one = opened(mechanism, interval=2)
+        for clause in CLAUSES:
+            place = 0 if clause < FREE else SLOTS - 1
+            yield with_slot_bytes(table_bytes(one), place, slot_bytes(spoiled(clause, one.slots[place])))
+    full = table_bytes(full_table())
+    last = table_of(full).slots[-1]
+    for clause in range(FREE):
+        yield with_slot_bytes(full, SLOTS - 1, slot_bytes(spoiled(clause, replace(last, interval=2))))
+
+
+def with_slot_bytes(text, place, slot):
+    at = place * SLOT.size
+    return text[:at] + slot + text[at + SLOT.size:]
+
+
+def cut_or_longer(text, length):
+    return (text + bytes(length))[:length]
+
+
+def edges():
+    """As (table, call): every limit, every clause of soundness and every wrong length, each at least once."""
+    fresh, full = table_bytes(FRESH_TABLE), table_bytes(full_table())
+    for record in openings():
+        yield fresh, record
+    yield full, opening()
+    for last in (LARGEST_SERIAL - 1, LARGEST_SERIAL):
+        yield table_bytes(replace(FRESH_TABLE, last=last)), opening()
+        yield table_bytes(replace(full_table(), last=last)), opening()
+    for mechanism in BOTH:
+        for record in calls_on(FIRST_HANDLE):
+            yield table_bytes(opened(mechanism)), record
+        for record in six_calls(FIRST_HANDLE):
+            yield table_bytes(opened(mechanism, fresh=0)), record
+        due = performed(opened(mechanism, interval=1), draw(FIRST_HANDLE)).table
+        for record in six_calls(FIRST_HANDLE):
+            yield table_bytes(due), record
+        longest = opened(mechanism, interval=LONGEST_INTERVAL)
+        for counter in (LONGEST_INTERVAL, LONGEST_INTERVAL + 1, LONGEST_INTERVAL + 2):
+            slot = replace(longest.slots[0], counter=counter)
+            for record in six_calls(FIRST_HANDLE):
+                yield with_slot_bytes(table_bytes(longest), 0, slot_bytes(slot)), record
+    for text in spoiled_tables():
+        for record in six_calls(table_of(text).slots[0].serial * SLOTS):
+            yield text, record
+    for length in TABLE_LENGTHS:
+        for text in (fresh, full):
+            for record in six_calls(FIRST_HANDLE):
+                yield cut_or_longer(text, length), record
+
+
+# Drawn by lot
+
+class Lot:
+    """Draws calls from a source of random numbers; the table goes on from call to call."""
+
+    def __init__(self, source):
+        self.source = source
+        self.table = table_bytes(FRESH_TABLE)
+        self.handles = []
+        self.openings = source.choice((4, 30))      # beside 30 other calls; 30 of them fill the table
+
+    def string(self, counts):
+        count = self.source.choice(counts)
+        if self.source.random() < 0.3:
+            count = self.source.randint(0, min(count, 2048))
+        return self.source.randbytes(count)
+
+    def length(self):
+        if self.source.random() < 0.01:
+            return self.source.choice(LONG)
+        return self.source.choice(LENGTHS)
+
+    def handle(self):
+        """Mostly one that was issued, and is closed or not."""
+        if self.handles != [] and self.source.random() < 0.9:
+            return self.source.choice(self.handles[-self.source.choice((2, 20)):])
+        return self.source.choice(STRANGE_HANDLES)
+
+    def opening(self):
+        """Most of them with settings that are served, as one refused setting is enough."""
+        choice = self.source.choice
+        if self.source.random() < 0.7:
+            return opening(
+                choice(BOTH), choice((0, 112, 128, 192, 256)), choice((1, 2, 3, 2**48)), choice(FRESH),
+                self.source.randbytes(choice((32, 33, 64, 1024))), self.source.randbytes(choice((8, 16, 64))),
+                self.source.randbytes(choice((0, 1, 512))))
+        return opening(
+            choice(MECHANISMS), choice(STRENGTHS), choice(INTERVALS), choice(FRESH), self.string(ENTROPY),
+            self.string(NONCE), self.string(PERSONALIZATION))
+
+    def good(self, kind):
+        """Of the three that take strings; strings and strength that any generator of strength 256 takes."""
+        handle, source = self.handle(), self.source
+        entropy, additional = source.randbytes(source.choice((32, 64))), source.randbytes(source.choice((0, 1, 64)))
+        if kind == RESEED:
+            return reseed(handle, entropy, additional)
+        if kind == DRAW:
+            return draw(handle, self.length(), 0, additional)
+        return fresh_draw(handle, self.length(), 0, entropy, additional)
+
+    def any(self, kind):
+        handle, source = self.handle(), self.source
+        if kind == RESEED:
+            return reseed(handle, self.string(ENTROPY), self.string(ADDITIONAL))
+        if kind == DRAW:
+            return draw(handle, self.length(), source.choice(STRENGTHS), self.string(ADDITIONAL))
+        return fresh_draw(
+            handle, self.length(), source.choice(STRENGTHS), self.string(ENTROPY), self.string(ADDITIONAL))
+
+    def record(self):
+        (kind,) = self.source.choices((OPEN, RESEED, DRAW, FRESH_DRAW, CLOSE, inquire), (self.openings, 5, 12, 8, 2, 3))
+        if kind == OPEN:
+            return self.opening()
+        if kind in (RESEED, DRAW, FRESH_DRAW):
+            return self.good(kind) if self.source.random() < 0.6 else self.any(kind)
+        return close(self.handle()) if kind == CLOSE else inquire(self.handle())
+
+    # Ways of spoiling a table; a changed byte may leave a sound one, but another
+
+    def bytes_changed(self):
+        text = bytearray(self.table)
+        for _ in range(self.source.choice((1, 1, 2, 20))):
+            text[self.source.randrange(len(text))] ^= self.source.randint(1, 255)
+        return bytes(text)
+
+    def bit_changed(self):
+        text = bytearray(self.table)
+        text[self.source.randrange(len(text))] ^= 1 << self.source.randrange(8)
+        return bytes(text)
+
+    def length_changed(self):
+        return cut_or_longer(self.table, self.source.choice(TABLE_LENGTHS + (self.source.randrange(4096),)))
+
+    def clause_broken(self):
+        place = self.source.randrange(SLOTS)
+        slot = table_of(self.table).slots[place]
+        clause = self.source.choice(CLAUSES[:FREE] if slot.mechanism else CLAUSES[FREE:])
+        return with_slot_bytes(self.table, place, slot_bytes(spoiled(clause, slot)))
+
+    def nothing_but_noise(self):
+        return self.source.randbytes(TABLE_BYTES)
+
+    def next(self):
+        """As (table, call)."""
+        text = self.table
+        if self.source.random() < 0.25:
+            text = self.source.choice((
+                self.bytes_changed, self.bit_changed, self.length_changed, self.clause_broken,
+                self.nothing_but_noise))()
+        return text, self.record()
+
+    def answered(self, record, outcome):
+        """The table goes on from a served call; a refused one leaves the one before, which may have been spoiled."""
+        if outcome.answer == SERVED:
+            self.table = outcome.table
+            if record.kind == OPEN:
+                self.handles.append(outcome.value)

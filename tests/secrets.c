@@ -1,0 +1,232 @@
+/* Secrets in the compiled code, seen by valgrind's memcheck: tests/secrets builds this and runs it there.
+ *
+ * memcheck tells, bit by bit, what was computed from bytes that it holds undefined, and reports each conditional jump and
+ * each address that depends on such a bit. So every secret is marked undefined before a call: entropy, nonce,
+ * personalization, additional input, and the secret fields of every slot in use. What a caller may see of a call, its
+ * answer, blocks and value and the other fields of the table, must be defined after it, and what it drew must not be:
+ * otherwise a secret would have been lost from sight on the way.
+ *
+ * LEAK is 0, or the number of a deliberate leak, which memcheck must report:
+ *   1  a jump on a drawn byte      2  an address made from a drawn byte      3  a public field that is marked secret,
+ *   so that the library's own test of it is a jump on a secret */
+#include <stdint.h>
+#include <stdio.h>
+#include <stdlib.h>
+#include <string.h>
+
+#include <valgrind/memcheck.h>
+
+#include "purangsa.h"
+
+#ifndef LEAK
+#define LEAK 0
+#endif
+
+enum { SLOTS = 16, SLOT = 134, COUNTER = 11, FIRST = 24, SECOND = 79, FIELD = 55, LAST = SLOTS * SLOT, TABLE = LAST + 4 };
+_Static_assert((int)TABLE == (int)PURANGSA_TABLE_LENGTH, "the fields fill the table");
+enum { HMAC_DRBG = 1, HASH_DRBG = 2 };
+enum {
+    SERVED = 0,
+    UNSOUND = 1,
+    NO_SUCH_GENERATOR = 2,
+    BAD_MECHANISM = 3,
+    ADDITIONAL_TOO_LONG = 7,
+    REQUEST_TOO_LONG = 10,
+    RESEED_DUE = 12,
+    NO_FREE_SLOT = 13
+};
+enum { MOST_STRING = 1024, MOST_OUTPUT = 65536, INTERVAL = 6, LEAST_STRENGTH = 112 };
+
+static uint8_t table[TABLE], output[MOST_OUTPUT + 1];
+static uint8_t entropy[MOST_STRING], nonce[64], personalization[512], additional[MOST_STRING + 1];
+static uint64_t blocks, value;
+static unsigned calls;
+
+static void fail(const char *why)
+{
+    fprintf(stderr, "secrets: call %u: %s\n", calls, why);
+    exit(1);
+}
+
+/* The bytes of a field that are secret: HMAC_DRBG uses 32 of the 55, and the others are public zeros. */
+static size_t secret_bytes(const uint8_t *slot)
+{
+    return slot[0] == HMAC_DRBG ? 32 : slot[0] == HASH_DRBG ? FIELD : 0;
+}
+
+static void hide(void)
+{
+    VALGRIND_MAKE_MEM_UNDEFINED(entropy, sizeof entropy);
+    VALGRIND_MAKE_MEM_UNDEFINED(nonce, sizeof nonce);
+    VALGRIND_MAKE_MEM_UNDEFINED(personalization, sizeof personalization);
+    VALGRIND_MAKE_MEM_UNDEFINED(additional, sizeof additional);
+    for (uint8_t *slot = table; slot < table + LAST; slot += SLOT) {
+        VALGRIND_MAKE_MEM_UNDEFINED(slot + FIRST, secret_bytes(slot));
+        VALGRIND_MAKE_MEM_UNDEFINED(slot + SECOND, secret_bytes(slot));
+    }
+}
+
+/* memcheck reports what is not defined here as it does a jump. */
+static void seen(const uint8_t *from, size_t length)
+{
+    VALGRIND_CHECK_MEM_IS_DEFINED(from, length);
+}
+
+static void hidden(const uint8_t *from, size_t length)
+{
+    for (size_t i = 0; i < length; i++) {
+        uint8_t undefined;
+        if (VALGRIND_GET_VBITS(from + i, &undefined, 1) != 1 || undefined == 0)
+            fail("what was made from secrets is held to be public");
+    }
+}
+
+/* After each call. */
+static void look(uint64_t answer, uint64_t expected)
+{
+    calls++;
+    seen((uint8_t *)&answer, sizeof answer);
+    seen((uint8_t *)&blocks, sizeof blocks);
+    seen((uint8_t *)&value, sizeof value);
+    for (uint8_t *slot = table; slot < table + LAST; slot += SLOT) {
+        size_t n = secret_bytes(slot);
+        seen(slot, FIRST);
+        hidden(slot + FIRST, n);
+        seen(slot + FIRST + n, FIELD - n);
+        hidden(slot + SECOND, n);
+        seen(slot + SECOND + n, FIELD - n);
+    }
+    seen(table + LAST, TABLE - LAST);
+    if (answer != expected)
+        fail("the answer is not the expected one");
+}
+
+/* What was drawn is a secret until the caller has it. */
+static void drawn(size_t length)
+{
+    hidden(output, length);
+#if LEAK == 1
+    if (length > 0 && output[0] > 127)
+        __asm__ volatile("" : : : "memory");
+#elif LEAK == 2
+    static volatile uint8_t any[257];
+    if (length > 0)
+        any[256] = any[output[0]];
+#endif
+    VALGRIND_MAKE_MEM_DEFINED(output, length);
+}
+
+/* A call, with every secret hidden before it; a table of one byte less is answered 1. */
+static uint64_t open_as(size_t t, uint64_t mechanism, uint64_t strength, size_t e, size_t n, size_t p, uint64_t expected)
+{
+    hide();
+    look(purangsa_open(table, t, mechanism, strength, INTERVAL, 1, entropy, e, nonce, n, personalization, p, &blocks, &value), expected);
+    return value;
+}
+
+static void reseed(size_t t, uint64_t handle, size_t e, size_t a, uint64_t expected)
+{
+    hide();
+    look(purangsa_reseed(table, t, handle, entropy, e, additional, a, &blocks, &value), expected);
+}
+
+static void draw(size_t t, uint64_t handle, size_t a, size_t length, uint64_t expected)
+{
+    hide();
+#if LEAK == 3
+    VALGRIND_MAKE_MEM_UNDEFINED(table + handle % SLOTS * SLOT + COUNTER, 8);
+#endif
+    look(purangsa_draw(table, t, handle, LEAST_STRENGTH, additional, a, output, length, &blocks, &value), expected);
+    if (expected == SERVED)
+        drawn(length);
+}
+
+static void fresh_draw(size_t t, uint64_t handle, size_t e, size_t a, size_t length, uint64_t expected)
+{
+    hide();
+    look(purangsa_fresh_draw(table, t, handle, LEAST_STRENGTH, entropy, e, additional, a, output, length, &blocks, &value), expected);
+    if (expected == SERVED)
+        drawn(length);
+}
+
+static void close_as(size_t t, uint64_t handle, uint64_t expected)
+{
+    hide();
+    look(purangsa_close(table, t, handle, &blocks, &value), expected);
+}
+
+static void inquire(size_t t, uint64_t handle, uint64_t expected)
+{
+    hide();
+    look(purangsa_inquire(table, t, handle, &blocks, &value), expected);
+}
+
+/* Both sides of a block's end, of a hash's and of the limits, for each string. */
+static const size_t lengths[] = { 16, 32, 55, 56, 64, 65, 119, 120, 1024 };
+enum { LENGTHS = sizeof lengths / sizeof lengths[0] };
+static const size_t requests[] = { 0, 1, 16, 32, 33, 1024 };
+enum { REQUESTS = sizeof requests / sizeof requests[0] };
+
+static uint64_t opened(size_t i)
+{
+    static const size_t nonces[] = { 8, 16, 64 }, personalizations[] = { 0, 1, 55, 512 };
+    static const uint64_t strengths[] = { 0, 128, 192, 256 };
+    size_t e = lengths[i / 2 % LENGTHS];
+    return open_as(TABLE, 1 + i % 2, e < 32 ? 0 : strengths[i / 2 % 4], e, nonces[i % 3], personalizations[i / 2 % 4], SERVED);
+}
+
+/* All calls on a generator whose strings have the i-th lengths, and the requests in turn. */
+static void live(uint64_t handle, size_t i)
+{
+    size_t e = lengths[i / 2 % LENGTHS], a = lengths[(i + 4) % LENGTHS];
+    for (size_t k = 0; k < REQUESTS; k++)
+        draw(TABLE, handle, k % 2 == 0 ? 0 : a, requests[k], SERVED);
+    draw(TABLE, handle, 0, 16, RESEED_DUE);
+    reseed(TABLE, handle, e, i % 4 < 2 ? a : 0, SERVED);
+    for (size_t k = 0; k < REQUESTS; k++)
+        fresh_draw(TABLE, handle, e, k % 2 == 0 ? a : 0, requests[k], SERVED);
+    if (i < 2)
+        draw(TABLE, handle, 0, MOST_OUTPUT, SERVED);
+    inquire(TABLE, handle, SERVED);
+}
+
+static void refused(uint64_t handle)
+{
+    open_as(TABLE - 1, 1, 0, 32, 8, 0, UNSOUND);
+    open_as(TABLE, 3, 0, 32, 8, 0, BAD_MECHANISM);
+    open_as(TABLE, 1, 256, 32, 8, 0, NO_FREE_SLOT);
+    reseed(TABLE - 1, handle, 32, 0, UNSOUND);
+    reseed(TABLE, 0, 32, 0, NO_SUCH_GENERATOR);
+    reseed(TABLE, handle, 32, MOST_STRING + 1, ADDITIONAL_TOO_LONG);
+    draw(TABLE - 1, handle, 0, 16, UNSOUND);
+    draw(TABLE, handle, 0, MOST_OUTPUT + 1, REQUEST_TOO_LONG);
+    fresh_draw(TABLE - 1, handle, 32, 0, 16, UNSOUND);
+    fresh_draw(TABLE, 0, 32, 0, 16, NO_SUCH_GENERATOR);
+    fresh_draw(TABLE, handle, 32, 0, MOST_OUTPUT + 1, REQUEST_TOO_LONG);
+    close_as(TABLE - 1, handle, UNSOUND);
+    inquire(TABLE - 1, handle, UNSOUND);
+    inquire(TABLE, 0, NO_SUCH_GENERATOR);
+}
+
+int main(void)
+{
+    if (!RUNNING_ON_VALGRIND)
+        fail("this is to be run under valgrind");
+    for (size_t i = 0; i < MOST_STRING; i++)
+        entropy[i] = additional[i] = (uint8_t)(7 * i + i / 251);
+    memcpy(nonce, entropy, sizeof nonce);
+    memcpy(personalization, entropy, sizeof personalization);
+
+    uint64_t handles[SLOTS];
+    for (size_t i = 0; i < SLOTS; i++)
+        handles[i] = opened(i);
+    for (size_t i = 0; i < SLOTS; i++)
+        live(handles[i], i);
+    refused(handles[0]);
+    for (size_t i = 0; i < SLOTS; i++) {
+        close_as(TABLE, handles[i], SERVED);
+        draw(TABLE, handles[i], 0, 16, NO_SUCH_GENERATOR);
+    }
+    printf("%u calls\n", calls);
+    return 0;
+}
