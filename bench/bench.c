@@ -1,15 +1,17 @@
-/* Times our functions beside others that do the same work, in one run, and prints a table of ratios.
+/* Times our draws beside others that do the same work, in one run.
  *
  * The machine is shared and its speed moves, so a side is never timed by itself: the two sides take turns in many short
  * repetitions, each first as often as the other, and a side's time is the least that it took in any of them. What else
  * runs on the machine can only add to a time; the least is what the code itself takes. The ratio of the medians stands
  * beside it: where the two ratios differ much, the run was disturbed and is to be repeated.
  *
- * Each side of a row is the generator that is opened at the row's start, so the n-th draw of one side is to be the n-th
- * of the other: the two are held together after each repetition.
+ * Each side of a row is a generator that is opened at the row's start, so the n-th draw of one side is to be the n-th of
+ * the other: all bytes of the first draw are compared, and the last eight after each repetition. Beside the bare
+ * compressions, how many there are is what the draw itself reports.
  *
- * `bench` prints the table; `bench more` only its rows beside OpenSSL, as more lines of that table: OpenSSL takes the
- * instructions that it may use from the environment when it starts. */
+ * A line of output is a row: what it is of, mechanism, bytes, beside what, the nanoseconds of both sides, the ratio, that
+ * of the medians, and the most that is promised (0: nothing), with tabs between. `bench more` gives only the rows beside
+ * OpenSSL: it takes the instructions that it may use from the environment when it starts. */
 #include <stdio.h>
 #include <stdlib.h>
 #include <string.h>
@@ -26,6 +28,7 @@ _Noreturn void fail(const char *why)
 /* One side of a row: does the work once and gives a number that is to be the other side's. */
 typedef uint64_t side(void);
 
+/* Not processor time: where others share the machine it is at times told too short, and then the least is wrong. */
 static double now(void)
 {
     struct timespec t;
@@ -48,10 +51,10 @@ static int by_size(const void *a, const void *b)
     return (x > y) - (x < y);
 }
 
-/* A row: the time of one unit of work on both sides, and their ratio; at_most is the promise, 0 where there is none. */
+/* A row: the time of one unit of work on both sides, and their ratio. */
 enum { MOST_REPETITIONS = 2000 };
 
-static void row(const char *name, side *ours, side *theirs, int repetitions, double units, double at_most)
+static void row(const char *name, side *ours, side *theirs, int repetitions, double units, double most)
 {
     static double our_times[MOST_REPETITIONS], their_times[MOST_REPETITIONS];
     for (int i = 0; i < repetitions; i++) {
@@ -64,10 +67,7 @@ static void row(const char *name, side *ours, side *theirs, int repetitions, dou
     }
     qsort(our_times, (size_t)repetitions, sizeof our_times[0], by_size);
     qsort(their_times, (size_t)repetitions, sizeof their_times[0], by_size);
-    char most[16] = "";
-    if (at_most > 0)
-        snprintf(most, sizeof most, "%.2f", at_most);
-    printf("| %-66s | %9.1f | %9.1f | %6.3f | %6.3f | %5s |\n", name, our_times[0] / units, their_times[0] / units,
+    printf("%s\t%.1f\t%.1f\t%.3f\t%.3f\t%.2f\n", name, our_times[0] / units, their_times[0] / units,
            our_times[0] / their_times[0], our_times[repetitions / 2] / their_times[repetitions / 2], most);
     fflush(stdout);
 }
@@ -76,40 +76,27 @@ static void row(const char *name, side *ours, side *theirs, int repetitions, dou
 enum { BLOCKS = 256 };
 static uint8_t text[64 * BLOCKS];
 
-static uint64_t our_bare(void) { return purangsa_bare(text, sizeof text); }
-static uint64_t their_bare(void) { return portable_bare(text, sizeof text); }
+static uint64_t our_compressions(void) { return purangsa_bare(text, sizeof text); }
+static uint64_t portable_compressions(void) { return portable_bare(text, sizeof text); }
 
-/* What the draws of a row are: times draws of length bytes, which consume blocks together. */
+/* What a row draws: times draws of length bytes, each whole or in the pieces that mbedTLS takes. */
+struct size {
+    size_t length;
+    int times, repetitions; /* a long draw takes milliseconds, a short one microseconds: a repetition has many of these */
+};
+static const struct size sizes[] = { { 16, 50, 1000 }, { 32, 50, 1000 }, { 1024, 10, 600 }, { 65536, 1, 400 } };
+enum { SIZES = sizeof sizes / sizeof sizes[0], LABEL = 0, LONGEST = SIZES - 1 };
+
+static const struct source *ours, *theirs;
 static uint8_t mechanism;
-static size_t length;
+static size_t length, piece;
 static int times;
-static uint64_t blocks;
-static int chunked;
-
 static uint8_t our_out[65536], their_out[65536];
 
-/* Our generator, as it stands in a slot. */
-static struct {
-    uint8_t first[55], second[55];
-    uint64_t counter;
-} slot;
-
-static void our_open(void)
+static void draw_in_pieces(const struct source *s, uint8_t *out, size_t most)
 {
-    if (purangsa_bench_open(mechanism, entropy, sizeof entropy, nonce, sizeof nonce, slot.first, sizeof slot.first,
-                            slot.second, sizeof slot.second) == 0)
-        fail("we do not open");
-    slot.counter = 1;
-}
-
-static uint64_t our_draw(uint8_t *out, size_t n)
-{
-    uint64_t consumed = purangsa_bench_draw(mechanism, slot.first, sizeof slot.first, slot.second, sizeof slot.second,
-                                            slot.counter, out, n);
-    if (consumed == 0)
-        fail("we do not draw");
-    slot.counter++;
-    return consumed;
+    for (size_t at = 0; at < length; at += most)
+        s->draw(out + at, length - at < most ? length - at : most);
 }
 
 static uint64_t last_eight(const uint8_t *out)
@@ -119,13 +106,34 @@ static uint64_t last_eight(const uint8_t *out)
     return x;
 }
 
-/* Our draws, answered by the blocks that they say they consumed, and as many bare compressions. */
+/* Answered by the last bytes of the last draw. */
+static uint64_t our_bytes(void)
+{
+    for (int i = 0; i < times; i++)
+        draw_in_pieces(ours, our_out, piece);
+    return last_eight(our_out);
+}
+
+static uint64_t their_bytes(void)
+{
+    for (int i = 0; i < times; i++)
+        draw_in_pieces(theirs, their_out, theirs->most);
+    return last_eight(their_out);
+}
+
+/* The same without an answer: one draw of ours beside several pieces of theirs, whose later bytes are others. */
+static uint64_t our_silent(void) { return our_bytes() & 0; }
+static uint64_t their_silent(void) { return their_bytes() & 0; }
+
+/* Answered by the blocks: our draws by those that they report, and as many bare compressions. */
+static uint64_t blocks;
+
 static uint64_t our_blocks(void)
 {
-    uint64_t consumed = 0;
+    uint64_t reported = 0;
     for (int i = 0; i < times; i++)
-        consumed += our_draw(our_out, length);
-    return consumed;
+        reported += ours->draw(our_out, length);
+    return reported;
 }
 
 static uint64_t bare_blocks(void)
@@ -141,128 +149,93 @@ static uint64_t bare_blocks(void)
     return done;
 }
 
-/* Our draws, answered by the last bytes of the last one, whole or in the pieces that mbedTLS takes. */
-static uint64_t our_bytes(void)
+static const char *row_name(const char *of, const char *beside)
 {
-    for (int i = 0; i < times; i++) {
-        if (chunked)
-            for (size_t at = 0; at < length; at += MBEDTLS_MOST)
-                our_draw(our_out + at, length - at < MBEDTLS_MOST ? length - at : MBEDTLS_MOST);
-        else
-            our_draw(our_out, length);
-    }
-    return last_eight(our_out);
+    static char name[120];
+    snprintf(name, sizeof name, "%s\t%s\t%zu\t%s", of, mechanism == 1 ? "HMAC" : "Hash", length, beside);
+    return name;
 }
 
-static uint64_t mbedtls_bytes(void)
+static void set(const struct size *s, uint8_t m, const struct source *o)
 {
-    for (int i = 0; i < times; i++)
-        mbedtls_draw(their_out, length);
-    return last_eight(their_out);
+    mechanism = m;
+    length = s->length;
+    times = s->times;
+    ours = o;
+    ours->open(m);
 }
 
-static uint64_t openssl_bytes(void)
+static void beside_bare(const struct size *s, uint8_t m, const struct source *o, double most)
 {
-    for (int i = 0; i < times; i++)
-        openssl_draw(mechanism, their_out, length);
-    return last_eight(their_out);
+    set(s, m, o);
+    blocks = our_blocks();
+    row(row_name(o->name, "its bare compressions"), our_blocks, bare_blocks, s->repetitions, s->times, most);
 }
 
-/* The same without an answer: one draw of ours beside pieces of mbedTLS's, whose later bytes are others. */
-static uint64_t our_silent(void) { return our_bytes() & 0; }
-static uint64_t mbedtls_silent(void) { return mbedtls_bytes() & 0; }
-
-/* All bytes of a first draw, ours and another's. */
-static void agree(side *theirs)
+/* All bytes of a first draw, ours in pieces as theirs. */
+static void agree(const struct source *t)
 {
-    times = 1;
-    our_open();
-    our_bytes();
-    theirs();
+    theirs = t;
+    theirs->open(mechanism);
+    piece = theirs->most;
+    draw_in_pieces(ours, our_out, piece);
+    draw_in_pieces(theirs, their_out, theirs->most);
     if (memcmp(our_out, their_out, length) != 0)
         fail("the two sides draw different bytes");
 }
 
-static void draws(uint8_t m, size_t n, int t, int c)
+static void beside(const struct size *s, uint8_t m, const struct source *t, const char *name, double most)
 {
-    mechanism = m;
-    length = n;
-    times = t;
-    chunked = c;
-    uint64_t turns = (n + 31) / 32;
-    blocks = (uint64_t)t * (m == 1 ? 4 * turns + 8 : turns + 2);
+    set(s, m, &library);
+    agree(t);
+    if (length <= piece) {
+        row(row_name(ours->name, name), our_bytes, their_bytes, s->repetitions, s->times, most);
+        return;
+    }
+    char in_pieces[80];
+    snprintf(in_pieces, sizeof in_pieces, "%s, both in pieces of %zu,%03zu", name, piece / 1000, piece % 1000);
+    row(row_name(ours->name, in_pieces), our_bytes, their_bytes, s->repetitions, s->times, 0);
+    piece = length;
+    row(row_name(ours->name, name), our_silent, their_silent, s->repetitions, s->times, most);
 }
 
-static const char *name_of(uint8_t m) { return m == 1 ? "HMAC" : "Hash"; }
+/* What is promised, 0 for nothing: through the library (issue 6), and for the draw by itself (issue 3). */
+static double most_beside_bare(size_t i) { return i == LABEL ? 1.4 : i == LONGEST ? 1.15 : 0; }
+static double most_beside_mbedtls(size_t i) { return i == LONGEST ? 1.1 : 0; }
+static double most_beside_openssl(size_t i, uint8_t m) { return i == LONGEST && m == 2 ? 1.0 : 0; }
 
-/* A long draw takes milliseconds, a short one microseconds: a repetition has many of these. */
-struct size {
-    size_t length;
-    int times, repetitions;
-    const char *name;
-};
-static const struct size sizes[] = { { 65536, 1, 400, "65,536" }, { 16, 50, 1000, "16" } };
-
-static char *say(const struct size *s, const char *beside)
+static void rows(void)
 {
-    static char name[80];
-    snprintf(name, sizeof name, "%s draw of %s bytes, beside %s", name_of(mechanism), s->name, beside);
-    return name;
-}
-
-static void beside_bare(const struct size *s, uint8_t m, double at_most)
-{
-    draws(m, s->length, s->times, 0);
-    our_open();
-    row(say(s, "its bare compressions"), our_blocks, bare_blocks, s->repetitions, s->times, at_most);
-}
-
-static void beside_mbedtls(const struct size *s, double at_most)
-{
-    draws(1, s->length, s->times, 1);
-    mbedtls_open();
-    agree(mbedtls_bytes);
-    times = s->times;
-    if (s->length > MBEDTLS_MOST) {
-        row(say(s, "mbedTLS in pieces of 1,024, ours too"), our_bytes, mbedtls_bytes, s->repetitions, s->times, 0);
-        chunked = 0;
-        row(say(s, "mbedTLS in pieces of 1,024"), our_silent, mbedtls_silent, s->repetitions, s->times, at_most);
-    } else {
-        row(say(s, "mbedTLS"), our_bytes, mbedtls_bytes, s->repetitions, s->times, at_most);
+    row("compression\t\t\tportable C", our_compressions, portable_compressions, 2000, BLOCKS, 1.1);
+    for (uint8_t m = 1; m <= 2; m++) {
+        beside_bare(&sizes[LABEL], m, &alone, 1.3);
+        beside_bare(&sizes[LONGEST], m, &alone, 1.15);
+        for (size_t i = 0; i < SIZES; i++) {
+            beside_bare(&sizes[i], m, &library, most_beside_bare(i));
+            beside(&sizes[i], m, &portable, "portable C", 0);
+            if (m == 1)
+                beside(&sizes[i], m, &mbedtls, "mbedTLS", most_beside_mbedtls(i));
+            beside(&sizes[i], m, &openssl, "OpenSSL", 0);
+        }
     }
 }
 
-static void beside_openssl(const struct size *s, uint8_t m, const char *with, double at_most)
+static void more_rows(void)
 {
-    draws(m, s->length, s->times, 0);
-    openssl_open(m);
-    agree(openssl_bytes);
-    times = s->times;
-    char beside[48];
-    snprintf(beside, sizeof beside, "OpenSSL %s", with);
-    row(say(s, beside), our_bytes, openssl_bytes, s->repetitions, s->times, at_most);
+    for (uint8_t m = 1; m <= 2; m++)
+        for (size_t i = 0; i < SIZES; i++)
+            beside(&sizes[i], m, &openssl, "OpenSSL without SHA extensions", most_beside_openssl(i, m));
 }
 
 int main(int count, char **words)
 {
-    int more = count > 1 && strcmp(words[1], "more") == 0;
-    const char *with = more ? "without SHA extensions" : "as it is";
-    if (!more) {
-        for (size_t i = 0; i < sizeof text; i++)
-            text[i] = (uint8_t)(i * 37 + i / 251);
-        printf("| %-66s | %-9s | %-9s | %-6s | %-6s | %-5s |\n", "nanoseconds for one", "ours", "theirs", "ratio", "median", "most");
-        printf("|--------------------------------------------------------------------|-----------|-----------|--------|--------|-------|\n");
-        row("compression, beside portable C at gcc -O3", our_bare, their_bare, 2000, BLOCKS, 1.10);
-        for (uint8_t m = 1; m <= 2; m++) {
-            beside_bare(&sizes[0], m, 1.15);
-            beside_bare(&sizes[1], m, 1.30);
-        }
-        beside_mbedtls(&sizes[0], 1.10);
-        beside_mbedtls(&sizes[1], 0);
-    }
-    for (uint8_t m = 1; m <= 2; m++) {
-        beside_openssl(&sizes[0], m, with, m == 2 && more ? 1.00 : 0);
-        beside_openssl(&sizes[1], m, with, 0);
-    }
+    for (size_t i = 0; i < sizeof text; i++)
+        text[i] = (uint8_t)(i * 37 + i / 251);
+    if (count > 1 && strcmp(words[1], "more") == 0)
+        more_rows();
+    else if (count > 1 && strcmp(words[1], "versions") == 0)
+        print_versions();
+    else
+        rows();
     return 0;
 }

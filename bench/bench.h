@@ -5,27 +5,31 @@
 /* crates/bare: a slice is a pointer and a length */
 uint32_t purangsa_bare(const uint8_t *text, size_t length);
 
-/* crates/draws */
-uint64_t purangsa_bench_open(uint8_t mechanism, const uint8_t *entropy, size_t entropy_length, const uint8_t *nonce,
-                             size_t nonce_length, uint8_t *first, size_t first_length, uint8_t *second,
-                             size_t second_length);
-uint64_t purangsa_bench_draw(uint8_t mechanism, uint8_t *first, size_t first_length, uint8_t *second,
-                             size_t second_length, uint64_t counter, uint8_t *out, size_t length);
+/* A source of draws. All of them are opened on the same entropy and nonce, with no personalization, so that all draw the
+ * same bytes. A draw gives the blocks that it reports, 0 where it reports none, and is of `most` bytes at most. */
+struct source {
+    const char *name;
+    void (*open)(uint8_t mechanism); /* 1: HMAC_DRBG, 2: Hash_DRBG */
+    uint64_t (*draw)(uint8_t *out, size_t length);
+    size_t most;
+};
+
+extern const struct source library; /* ours, through the library: a full table of 16 generators */
+extern const struct source alone;   /* ours, the draw by itself: crates/draws, a generator's two fields, no table */
+extern const struct source portable, mbedtls, openssl;
+
+enum { ENTROPY = 32, NONCE = 16 };
+extern const uint8_t entropy[ENTROPY], nonce[NONCE];
 
 /* portable.c */
 uint32_t portable_bare(const uint8_t *text, size_t length);
 
-/* others.c: other libraries' generators, opened on the same entropy and nonce, each with no personalization */
-enum { ENTROPY = 32, NONCE = 16 };
-extern const uint8_t entropy[ENTROPY], nonce[NONCE];
+struct portable {
+    uint8_t mechanism, first[55], second[55];
+    uint64_t counter;
+};
+void portable_open(struct portable *g, uint8_t mechanism, const uint8_t *seed, size_t length);
+void portable_draw(struct portable *g, uint8_t *out, size_t length);
 
-/* mbedTLS's HMAC_DRBG; a draw is of 1,024 bytes at most */
-enum { MBEDTLS_MOST = 1024 };
-void mbedtls_open(void);
-void mbedtls_draw(uint8_t *out, size_t length);
-
-/* OpenSSL's, by our numbers for the mechanisms */
-void openssl_open(uint8_t mechanism);
-void openssl_draw(uint8_t mechanism, uint8_t *out, size_t length);
-
+void print_versions(void);
 _Noreturn void fail(const char *why);

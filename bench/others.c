@@ -1,22 +1,16 @@
-/* Other libraries' generators over SHA-256, opened on fixed entropy and a fixed nonce as ours are, so that all of them
- * draw the same bytes. No reseed falls due while they are timed. */
+/* Others' generators over SHA-256. No reseed falls due while they are timed. */
 #include <limits.h>
+#include <stdio.h>
 #include <string.h>
 
 #include <mbedtls/hmac_drbg.h>
+#include <mbedtls/version.h>
 #include <openssl/core_names.h>
+#include <openssl/crypto.h>
 #include <openssl/evp.h>
 #include <openssl/params.h>
 
 #include "bench.h"
-
-const uint8_t entropy[ENTROPY] = {
-    0x00, 0x01, 0x02, 0x03, 0x04, 0x05, 0x06, 0x07, 0x08, 0x09, 0x0a, 0x0b, 0x0c, 0x0d, 0x0e, 0x0f,
-    0x10, 0x11, 0x12, 0x13, 0x14, 0x15, 0x16, 0x17, 0x18, 0x19, 0x1a, 0x1b, 0x1c, 0x1d, 0x1e, 0x1f,
-};
-const uint8_t nonce[NONCE] = {
-    0x20, 0x21, 0x22, 0x23, 0x24, 0x25, 0x26, 0x27, 0x28, 0x29, 0x2a, 0x2b, 0x2c, 0x2d, 0x2e, 0x2f,
-};
 
 /* mbedTLS asks for the entropy first, and for the nonce in a second call. */
 static int lend(void *asked, unsigned char *out, size_t length)
@@ -31,32 +25,34 @@ static int lend(void *asked, unsigned char *out, size_t length)
     return 0;
 }
 
-static mbedtls_hmac_drbg_context mbedtls;
+static mbedtls_hmac_drbg_context drbg;
 
-void mbedtls_open(void)
+static void mbedtls_open(uint8_t mechanism)
 {
     static int opened;
     int calls = 0;
+    if (mechanism != 1)
+        fail("mbedTLS has no Hash_DRBG");
     if (opened)
-        mbedtls_hmac_drbg_free(&mbedtls);
+        mbedtls_hmac_drbg_free(&drbg);
     opened = 1;
-    mbedtls_hmac_drbg_init(&mbedtls);
-    if (mbedtls_hmac_drbg_seed(&mbedtls, mbedtls_md_info_from_type(MBEDTLS_MD_SHA256), lend, &calls, NULL, 0) != 0)
+    mbedtls_hmac_drbg_init(&drbg);
+    if (mbedtls_hmac_drbg_seed(&drbg, mbedtls_md_info_from_type(MBEDTLS_MD_SHA256), lend, &calls, NULL, 0) != 0)
         fail("mbedTLS does not open");
-    mbedtls_hmac_drbg_set_reseed_interval(&mbedtls, INT_MAX);
+    mbedtls_hmac_drbg_set_reseed_interval(&drbg, INT_MAX);
 }
 
-void mbedtls_draw(uint8_t *out, size_t length)
+static uint64_t mbedtls_draw(uint8_t *out, size_t length)
 {
-    for (size_t at = 0; at < length; at += MBEDTLS_MOST) {
-        size_t n = length - at < MBEDTLS_MOST ? length - at : MBEDTLS_MOST;
-        if (mbedtls_hmac_drbg_random(&mbedtls, out + at, n) != 0)
-            fail("mbedTLS does not draw");
-    }
+    if (mbedtls_hmac_drbg_random(&drbg, out, length) != 0)
+        fail("mbedTLS does not draw");
+    return 0;
 }
+
+const struct source mbedtls = { "mbedTLS", mbedtls_open, mbedtls_draw, MBEDTLS_HMAC_DRBG_MAX_REQUEST };
 
 enum { STRENGTH = 256 };
-static EVP_RAND_CTX *openssl[3];
+static EVP_RAND_CTX *generator;
 
 static EVP_RAND_CTX *context(const char *name, EVP_RAND_CTX *parent)
 {
@@ -68,7 +64,7 @@ static EVP_RAND_CTX *context(const char *name, EVP_RAND_CTX *parent)
     return c;
 }
 
-void openssl_open(uint8_t mechanism)
+static void openssl_open(uint8_t mechanism)
 {
     unsigned int strength = STRENGTH, never = 0;
     uint64_t no_time = 0;
@@ -96,13 +92,41 @@ void openssl_open(uint8_t mechanism)
     if (!EVP_RAND_CTX_set_params(c, kind)
         || !EVP_RAND_instantiate(c, STRENGTH, 0, (const unsigned char *)"", 0, NULL))
         fail("OpenSSL does not open");
-    EVP_RAND_CTX_free(openssl[mechanism]);
+    EVP_RAND_CTX_free(generator);
     EVP_RAND_CTX_free(parent);
-    openssl[mechanism] = c;
+    generator = c;
 }
 
-void openssl_draw(uint8_t mechanism, uint8_t *out, size_t length)
+static uint64_t openssl_draw(uint8_t *out, size_t length)
 {
-    if (!EVP_RAND_generate(openssl[mechanism], out, length, STRENGTH, 0, NULL, 0))
+    if (!EVP_RAND_generate(generator, out, length, STRENGTH, 0, NULL, 0))
         fail("OpenSSL does not draw");
+    return 0;
+}
+
+const struct source openssl = { "OpenSSL", openssl_open, openssl_draw, 65536 };
+
+static struct portable plain;
+
+static void plain_open(uint8_t mechanism)
+{
+    uint8_t seed[ENTROPY + NONCE];
+    memcpy(seed, entropy, ENTROPY);
+    memcpy(seed + ENTROPY, nonce, NONCE);
+    portable_open(&plain, mechanism, seed, sizeof seed);
+}
+
+static uint64_t plain_draw(uint8_t *out, size_t length)
+{
+    portable_draw(&plain, out, length);
+    return 0;
+}
+
+const struct source portable = { "portable C", plain_open, plain_draw, 65536 };
+
+void print_versions(void)
+{
+    char name[18];
+    mbedtls_version_get_string_full(name);
+    printf("gcc %s, %s, %s\n", __VERSION__, name, OpenSSL_version(OPENSSL_VERSION));
 }

@@ -1,9 +1,9 @@
 """python3 bench/small_records.py PROGRAM BARE: the program on full books of small records, beside the hashing that they need.
 
 BARE is crates/bare as a shared library. The books have 65,536 bytes, an opening and then draws of 0 to 32 bytes, one
-book for each mechanism. The two sides take turns and the least time of each counts, as in bench.c. It is processor
-time, the system's part included, as a run is long enough to be interrupted by others; from the program's time that of
-an empty book is taken off, which is what starting a process takes.
+book for each mechanism. A line is a row as those of bench.c, its length the book's records. The two sides take turns and
+the least time of each counts, as there. It is processor time, the system's part included, as a run is long enough to be
+interrupted by others; from the program's time that of an empty book is taken off, which is what starting a process takes.
 """
 
 import ctypes
@@ -19,6 +19,7 @@ sys.path.append(str(pathlib.Path(__file__).resolve().parent.parent / "second"))
 from book import record_bytes
 from mechanisms import HASH_DRBG, HMAC_DRBG
 from records import MOST_BOOK
+from rows import Row, row_line
 from writer import draw, opening
 
 REPETITIONS = 60
@@ -72,9 +73,8 @@ def row(name, program, bare, book, folder):
     own, alone = min(runs) - min(starts), min(bares)
     median = (statistics.median(runs) - statistics.median(starts)) / statistics.median(bares)
     nanoseconds = 1e9 / blocks
-    name = f"block of a book of {len(output.splitlines()):,} records, {name}"
-    print(f"| {name:<48} | {own * nanoseconds:8.1f} | {alone * nanoseconds:8.1f} "
-          f"| {own / alone:6.3f} | {median:6.3f} | {MOST:5.2f} |")
+    records = len(output.splitlines())
+    print(row_line(Row("book", name, records, "its bare compressions", own * nanoseconds, alone * nanoseconds, own / alone, median, MOST)))
 
 
 def main(program, library):
@@ -82,7 +82,7 @@ def main(program, library):
     bare.argtypes = [ctypes.c_char_p, ctypes.c_size_t]
     bare.restype = ctypes.c_uint32
     folder = pathlib.Path(library).resolve().parent
-    for name, mechanism in (("HMAC_DRBG", HMAC_DRBG), ("Hash_DRBG", HASH_DRBG)):
+    for name, mechanism in (("HMAC", HMAC_DRBG), ("Hash", HASH_DRBG)):
         row(name, program, bare, small_records(mechanism), folder)
 
 
