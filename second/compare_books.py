@@ -6,11 +6,9 @@ program prints, byte for byte. SEED repeats the random books of an earlier run. 
 fails is kept in target/failed/. (On the stored books the program `books` runs the same code.)
 """
 
-import pathlib
 import random
 import resource
 import subprocess
-import sys
 import time
 
 from book import record_bytes
@@ -20,6 +18,7 @@ from make_books import CRATE, output_of
 from mechanisms import HASH_DRBG, HMAC_DRBG
 from random_books import random_book
 from records import DRAW, MOST_BOOK, RESEED
+from seeds import command
 from tally import Tally
 from vectors import PUBLISHED, cases
 from writer import Writer, close, draw, fresh_draw, inquire, reseed
@@ -35,7 +34,7 @@ class Program:
     """The program under comparison, and the tally of its runs."""
 
     def __init__(self, path):
-        self.path = str(pathlib.Path(path).resolve())
+        self.path = path
         self.tally = Tally()
 
     def output(self, book, **settings):
@@ -202,8 +201,6 @@ def counted(program, name, compare):
 
 
 def main(path, seed):
-    if not pathlib.Path(path).is_file():
-        raise SystemExit(f"compare_books.py: there is no program {path}")
     program = Program(path)
     counted(program, "NIST's cases as books", lambda: compare_nist(program))
     counted(program, "random books", lambda: compare_random(program, seed))
@@ -214,11 +211,5 @@ def main(path, seed):
     return program.tally.status()
 
 
-def fresh_seed():
-    return str(random.SystemRandom().randrange(10**9))
-
-
 if __name__ == "__main__":
-    if len(sys.argv) not in (2, 3):
-        raise SystemExit("usage: compare_books.py PROGRAM [SEED]")
-    sys.exit(main(sys.argv[1], sys.argv[2] if len(sys.argv) == 3 else fresh_seed()))
+    command(main, "PROGRAM")

@@ -7,15 +7,14 @@ repeats those of an earlier run. A call that differs is shown with its place in 
 """
 
 import collections
-import pathlib
 import random
-import sys
 
 from answers import SERVED, TABLE_UNSOUND
 from library import Library, Outcome
 from random_calls import Lot, edges
 from records import CLOSE, DRAW, FRESH_DRAW, INQUIRE, OPEN, RESEED
 from run import performed
+from seeds import command
 from stored import TABLE_BYTES, table_bytes, table_of
 from tally import Tally
 from text import NAMES
@@ -98,9 +97,7 @@ def served_calls(comparison):
 
 
 def main(path, seed):
-    if not pathlib.Path(path).is_file():
-        raise SystemExit(f"compare_calls.py: there is no library {path}")
-    comparison = Comparison(Library(str(pathlib.Path(path).resolve())))
+    comparison = Comparison(Library(path))
     counted(comparison, "at the limits", lambda: compare_edges(comparison))
     counted(comparison, f"random calls, seed {seed}", lambda: compare_random(comparison, seed))
     note_answers(comparison)
@@ -108,11 +105,5 @@ def main(path, seed):
     return comparison.tally.status()
 
 
-def fresh_seed():
-    return str(random.SystemRandom().randrange(10**9))
-
-
 if __name__ == "__main__":
-    if len(sys.argv) not in (2, 3):
-        raise SystemExit("usage: compare_calls.py LIBRARY [SEED]")
-    sys.exit(main(sys.argv[1], sys.argv[2] if len(sys.argv) == 3 else fresh_seed()))
+    command(main, "LIBRARY")

@@ -1,13 +1,13 @@
 -- An output that is filled one hash after the other. Assumes nothing.
-use mathlib.Core.Path.{_≡_, refl, sym, ap, ap₂, _∙_}
-use mathlib.Core.List.{List, [], _++_, append-assoc, append-nil}
-use Prim.Native.Nat.{ℕ, _+_, _-_, _*_, _/_, _%_, _≤_, _<_, min}
-use native.Mathlib.Nat.{le-of-eq, le-of-lt}
+use mathlib.Core.Path.{_≡_, sym, ap, ap₂, _∙_}
+use mathlib.Core.List.{List, _++_, append-nil}
+use Prim.Native.Nat.{ℕ, _+_, _-_, _/_, _%_, _≤_, _<_, min}
+use native.Mathlib.Nat.{le-of-eq}
 use native.Mathlib.Numerals.{add-one}
 use native.Mathlib.Decide.{decLe}
 use native.Mathlib.Omega.{arith}
-use lib.ListN.{length, take, drop, drop-of-length-le, length-append, length-take}
-use lib.Seq.{paste, take-paste, take-append-add, take-all, take-append-le, length-paste, take-at, length-paste-head}
+use lib.ListN.{length, take, drop-of-length-le}
+use lib.Seq.{paste, take-paste, take-append-add, take-all, length-paste}
 use Rattle.standard.specs.Strings.{ceiling}
 use Rattle.standard.specs.Hash.{hash}
 use Rattle.standard.specs.Hmac.{Key, hmac}

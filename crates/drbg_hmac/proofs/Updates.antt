@@ -1,17 +1,17 @@
 -- HMAC_DRBG's update as two halves that differ in the separator. Assumes nothing.
-use mathlib.Core.Path.{_≡_, refl, sym, ap, _∙_}
-use mathlib.Core.List.{List, [], _∷_, _++_}
-use Prim.Native.Nat.{ℕ, zero, suc, _+_, _*_, _/_, _≤_, _<_}
-use native.Mathlib.Nat.{add-zero, add-assoc}
+use mathlib.Core.Path.{_≡_, refl, ap, _∙_}
+use mathlib.Core.List.{List, [], _∷_}
+use Prim.Native.Nat.{ℕ, _+_, _/_, _<_}
+use native.Mathlib.Nat.{add-zero}
 use native.Mathlib.Omega.{arith}
 use lib.Dec.{lit<}
 use lib.ListN.{length}
 use Rattle.standard.specs.Metered.{Metered, return, _>>=_}
 use Rattle.standard.specs.Strings.{ifNull}
-use Rattle.standard.specs.Hmac.{hmac, rekey}
+use Rattle.standard.specs.Hmac.{hmac}
 use Rattle.standard.specs.HmacDrbg.{Keyed, update}
 use Rattle.standard.specs.Sha256.{sha256}
-use Rattle.standard.proofs.Counts.{half-update-blocks, hmac-blocks, sha256-update, sha256-update-none}
+use Rattle.standard.proofs.Counts.{half-update-blocks, hmac-blocks}
 use Rattle.standard.proofs.Lengths.{length-filled, length-hmac, length-rekey}
 use Rattle.standard.proofs.Strings.{ifNull-nil, ifNull-some}
 use Rattle.drbg_hmac.specs.Keys.{ready, keyed, half}

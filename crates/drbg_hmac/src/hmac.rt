@@ -8,7 +8,7 @@ use sha256::running::Running;
 ghost use mathlib.Core.Path.{_≡_};
 ghost use mathlib.Core.List.{_∷_, _++_};
 ghost use Prim.Native.Nat.{_≤_};
-ghost use lib.ListN.{length, drop};
+ghost use lib.ListN.{length};
 ghost use Rattle.standard.specs.Hash.{padding, hash};
 ghost use Rattle.standard.specs.Hmac.{xored, filled, hmac};
 ghost use Rattle.standard.specs.Sha256.{sha256};

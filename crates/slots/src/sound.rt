@@ -3,7 +3,6 @@ use crate::layout;
 use crate::layout::Table;
 use crate::slot::Slot;
 ghost use mathlib.Core.Path.{_≡_};
-ghost use mathlib.Core.Bool.{_&&_, _||_};
 ghost use Prim.Native.Nat.{_+_, _-_, _≤_};
 ghost use lib.ListN.{take, drop};
 ghost use Rattle.slots.specs.Sound.{allZero, between, freeNumbers, usedNumbers, soundSlot, sound};

@@ -14,7 +14,7 @@ use Rattle.slots.specs.declared.layout.Table.{Table}
 use Rattle.slots.proofs.Flags.{both}
 use Rattle.table.specs.Answers.{Reply, refused, refusedDraw}
 use Rattle.table.specs.declared.answers.Answer.{Answer}
-use Rattle.stored.specs.Bytes.{tableBytes, tableOf, soundBytes}
+use Rattle.stored.specs.Bytes.{tableOf, soundBytes}
 use Rattle.stored.specs.Calls.{refusal, done, onBytes, silent}
 use Rattle.stored.specs.declared.answers.Told.{Told}
 use Rattle.stored.proofs.TableBytes.{bytes-tableOf}

@@ -6,10 +6,10 @@ use native.Mathlib.Nat.{le-of-eq, not-suc-le-zero, le-of-suc-le-suc, zero-lt-suc
 use native.Mathlib.Omega.{arith}
 use lib.Dec.{lit≤}
 use lib.ListN.{length, take, drop, getD, set, replicate, length-append, length-drop, take-append-drop, drop-of-length-le}
-use lib.Seq.{take-add, drop-drop, take-take, take-all, take-at, drop-at, length-take-le, paste}
+use lib.Seq.{take-add, drop-drop, take-all, take-at, drop-at, length-take-le, paste}
 use Rattle.standard.specs.Strings.{numberOf}
 use Rattle.standard.proofs.Strings.{Bytes, bytes-take, bytes-drop}
-use Rattle.slots.specs.Layout.{noSlot, slotAt, withSlot, lastSerial, withLastSerial, freshTable}
+use Rattle.slots.specs.Layout.{noSlot, slotAt, withSlot, withLastSerial, freshTable}
 use Rattle.slots.specs.declared.slot.Slot.{Slot}
 use Rattle.slots.specs.declared.layout.Table.{Table}
 use Rattle.stored.specs.Numbers.{part, fromLittleEndian, littleEndian}

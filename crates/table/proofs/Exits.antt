@@ -1,11 +1,9 @@
 -- What each call answers at each of its exits, by what it has found there. Assumes nothing.
 use mathlib.Core.Path.{_≡_, refl, sym, ap, ap₂, _∙_}
-use mathlib.Core.Bool.{Bool, true, false, false≢true, not, _&&_}
+use mathlib.Core.Bool.{Bool, true, false}
 use mathlib.Core.List.{List}
-use Prim.Native.Nat.{ℕ, _+_, _-_, _^_, _≤_, _<_}
+use Prim.Native.Nat.{ℕ, _+_, _-_, _<_}
 use native.Mathlib.Omega.{arith}
-use borrow.Author.Tests.{ltb-false, eqb-true, eqb-false}
-use lib.Dec.{eqb}
 use lib.ListN.{length}
 use Rattle.drbg.specs.Generator.{Filled}
 use Rattle.drbg.specs.declared.generator.Generator.{Generator}
@@ -17,7 +15,7 @@ use Rattle.slots.specs.declared.slot.Slot.{Slot}
 use Rattle.slots.specs.declared.layout.Table.{Table}
 use Rattle.slots.proofs.Handles.{lowest-most}
 use Rattle.table.specs.Reasons.{Reasons, firstOf, rounded}
-use Rattle.table.specs.Answers.{refused, accepted, refusedDraw, generatorOf, stepped, steppedDraw, newSlot, installed}
+use Rattle.table.specs.Answers.{refused, accepted, refusedDraw, stepped, steppedDraw, newSlot, installed}
 use Rattle.table.specs.Served.{opened, reseeded, drawn, freshDrawn}
 use Rattle.table.specs.Opening.{openReasons, openOf}
 use Rattle.table.specs.Reseeding.{reseedReasons, reseedOf}

@@ -1,5 +1,4 @@
 -- Assumes nothing.
-use Prim.Native.Nat.{_≤_}
 use mathlib.Core.Path.{_≡_, sym, ap, ap₂, _∙_}
 use mathlib.Core.List.{_∷_, _++_, append-nil}
 use native.Mathlib.Omega.{arith}

@@ -1,8 +1,8 @@
 -- Six strings, of which one is empty. Assumes nothing.
-use mathlib.Core.Path.{_≡_, sym, ap, _∙_}
-use mathlib.Core.List.{[], _∷_, _++_, append-nil, append-assoc}
+use mathlib.Core.Path.{sym, ap, _∙_}
+use mathlib.Core.List.{_∷_, _++_, append-nil}
 use native.Mathlib.Omega.{arith}
-use lib.ListN.{length, take}
+use lib.ListN.{take}
 use lib.Seq.{length-take-le}
 use Rattle.standard.specs.Hash.{hash}
 use Rattle.standard.specs.Sha256.{sha256}

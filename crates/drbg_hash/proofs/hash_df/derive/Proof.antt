@@ -1,9 +1,7 @@
 -- Two hashes. Assumes nothing.
-use mathlib.Core.Path.{_≡_, sym, ap, ap₂, _∙_}
+use mathlib.Core.Path.{sym, ap, _∙_}
 use native.Mathlib.Omega.{arith}
-use lib.ListN.{length, length-append}
-use Rattle.standard.specs.HashDf.{hashDf, hashDfTurns}
-use Rattle.standard.specs.Sha256.{sha256}
+use lib.ListN.{length-append}
 use Rattle.standard.proofs.Counts.{sha256-hash}
 use Rattle.drbg_hash.proofs.Derivations.{hashDf-two, length-taken}
 use borrow.Author.Needs.{needs}

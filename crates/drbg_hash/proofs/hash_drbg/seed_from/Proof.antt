@@ -1,7 +1,7 @@
 -- V, then C from V. Assumes nothing.
 use mathlib.Core.Path.{_≡_, sym, ap, _∙_}
 use mathlib.Core.List.{_∷_, append-nil}
-use native.Mathlib.Nat.{add-zero, le-of-eq}
+use native.Mathlib.Nat.{add-zero}
 use native.Mathlib.Omega.{arith}
 use lib.ListN.{length, length-append}
 use lib.Seq.{take-all}

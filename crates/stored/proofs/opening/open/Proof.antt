@@ -1,5 +1,5 @@
 -- No sound table, refused by a reason, or served. Assumes nothing.
-use mathlib.Core.Path.{sym, ap, ap₂, _∙_}
+use mathlib.Core.Path.{ap, ap₂, _∙_}
 use mathlib.Core.Logic.{⊎-elim}
 use mathlib.Core.List.{[]}
 use native.Mathlib.Omega.{arith}

@@ -5,7 +5,7 @@ use mathlib.Core.Bool.{_&&_}
 use native.Mathlib.Omega.{arith}
 use lib.ListN.{length}
 use Rattle.slots.specs.Layout.{lastSerial}
-use Rattle.slots.specs.Sound.{soundSlot, soundSlots, sound}
+use Rattle.slots.specs.Sound.{soundSlots, sound}
 use Rattle.slots.proofs.Scanning.{sound-more}
 use borrow.Author.Needs.{needs}
 use Rattle.stored.specs.Bytes.{tableOf}
