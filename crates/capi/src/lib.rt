@@ -1,6 +1,6 @@
 // The library that C and Rust link: the six calls on a table in the caller's 2,148 bytes. include/purangsa.h says what each promises.
-use stored::answers::Told;
-use stored::calls;
+use table::answers::Told;
+use table::calls;
 ghost use mathlib.Core.Path.{_≡_};
 ghost use mathlib.Core.List.{[]};
 ghost use mathlib.Core.Bool.{not};
@@ -11,7 +11,7 @@ ghost use Rattle.table.specs.Drawing.{drawOf};
 ghost use Rattle.table.specs.FreshDrawing.{freshDrawOf};
 ghost use Rattle.table.specs.Closing.{closeOf};
 ghost use Rattle.table.specs.Inquiring.{inquireOf};
-ghost use Rattle.stored.specs.Calls.{onBytes, silent};
+ghost use Rattle.table.specs.OnBytes.{onBytes, silent};
 ghost use Rattle.capi.specs.Left.{leaves};
 
 // What a call tells goes out by the result and the two pointers.

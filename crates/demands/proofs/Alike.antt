@@ -17,14 +17,14 @@ use Rattle.slots.specs.Layout.{freeSlot, slotAt, withSlot, lastSerial, withLast
 use Rattle.slots.specs.Sound.{sound}
 use Rattle.slots.specs.Handle.{handleOf, slotOf, names, lookUp, named, lowestFree}
 use Rattle.slots.specs.declared.slot.Slot.{Slot}
-use Rattle.slots.specs.declared.layout.Table.{Table}
+use Rattle.slots.specs.Layout.{Table}
 use Rattle.slots.proofs.Slots.{slotAt-same, slotAt-other, lastSerial-withSlot}
 use Rattle.slots.proofs.Soundness.{sound-fresh, sound-has}
 use Rattle.slots.proofs.Handles.{named-is, slot-below, lowest-most}
 use Rattle.table.specs.Reasons.{Reasons, firstOf, rounded}
 use Rattle.table.specs.Answers.{Reply, decided, stepped, installed, withGenerator, newSlot, generatorOf}
 use Rattle.table.specs.Served.{mechanismIn, stateIn}
-use Rattle.table.specs.declared.answers.Answer.{Answer}
+use Rattle.table.specs.Answers.{Answer}
 use Rattle.table.proofs.FirstReason.{numbered, NoneHolds, none-holds}
 use Rattle.table.proofs.Allowed.{may-open, may-reseed, may-draw, may-draw-fresh}
 use Rattle.demands.specs.Calls.{Call, reply, answer, reasonsOf}

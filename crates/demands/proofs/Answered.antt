@@ -5,7 +5,7 @@ use mathlib.Core.Logic.{_⊎_, inl, inr}
 use Prim.Native.Nat.{ℕ, zero, suc}
 use native.Mathlib.Omega.{arith}
 use lib.Dec.{eqb, eqb·suc-zero}
-use Rattle.slots.specs.declared.layout.Table.{Table}
+use Rattle.slots.specs.Layout.{Table}
 use Rattle.table.specs.Reasons.{Reasons, _when_else_, firstOf}
 use Rattle.table.specs.Answers.{Reply, decided, stepped, installed}
 use Rattle.table.specs.Opening.{openReasons}

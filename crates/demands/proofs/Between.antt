@@ -11,9 +11,9 @@ use Rattle.standard.specs.State.{State}
 use Rattle.slots.specs.Layout.{lastSerial, freshTable}
 use Rattle.slots.specs.Handle.{inUse, slotOf, names, lowestFree}
 use Rattle.slots.specs.declared.slot.Slot.{Slot}
-use Rattle.slots.specs.declared.layout.Table.{Table}
+use Rattle.slots.specs.Layout.{Table}
 use Rattle.slots.proofs.Handles.{named-is, names-used, names-serial, names-by, sound-named, lowest-most, handle-serial}
-use Rattle.table.specs.declared.answers.Answer.{Answer}
+use Rattle.table.specs.Answers.{Answer}
 use Rattle.table.proofs.Allowed.{may-open, may-reseed, may-draw-fresh}
 use Rattle.demands.specs.Calls.{Call, opens, reseeds, freshDraws, answer, number, after, afterAll}
 use Rattle.demands.specs.Draws.{drawsServed, NoReseed}

@@ -18,7 +18,7 @@ use Rattle.slots.specs.Layout.{freeSlot, slotAt, withSlot, lastSerial, withLast
 use Rattle.slots.specs.Sound.{sound}
 use Rattle.slots.specs.Handle.{inUse, slotOf, names, lowestFree}
 use Rattle.slots.specs.declared.slot.Slot.{Slot}
-use Rattle.slots.specs.declared.layout.Table.{Table}
+use Rattle.slots.specs.Layout.{Table}
 use Rattle.slots.proofs.Slots.{slotAt-same, slotAt-other, slotAt-withLastSerial}
 use Rattle.slots.proofs.Soundness.{sound-has}
 use Rattle.slots.proofs.Handles.{named-is, names-used, names-serial, names-by, sound-named, slot-below, lowest-free, lowest-most}

@@ -12,7 +12,7 @@ use Rattle.slots.specs.Layout.{freeSlot, slotAt, withSlot, lastSerial, freshTab
 use Rattle.slots.specs.Sound.{sound}
 use Rattle.slots.specs.Handle.{handleOf, inUse, slotOf, names, named, lowestFree}
 use Rattle.slots.specs.declared.slot.Slot.{Slot}
-use Rattle.slots.specs.declared.layout.Table.{Table}
+use Rattle.slots.specs.Layout.{Table}
 use Rattle.slots.proofs.Slots.{slotAt-same, slotAt-other, lastSerial-withSlot, slotAt-withLastSerial, lastSerial-withLastSerial}
 use Rattle.slots.proofs.Soundness.{sound-has}
 use Rattle.slots.proofs.Handles.{named-is, names-used, names-serial, names-fresh, sound-named, slot-below, handle-serial}

@@ -13,7 +13,7 @@ use Rattle.standard.proofs.Strings.{Bytes, bytes-replicate}
 use Rattle.slots.specs.Layout.{freeSlot, slotAt, withSlot, lastSerial, withLastSerial, freshTable}
 use Rattle.slots.specs.Handle.{lowestFree}
 use Rattle.slots.specs.declared.slot.Slot.{Slot}
-use Rattle.slots.specs.declared.layout.Table.{Table}
+use Rattle.slots.specs.Layout.{Table}
 use Rattle.slots.proofs.Flags.{either}
 use Rattle.slots.proofs.Slots.{slotAt-cases, lastSerial-withSlot, lastSerial-withLastSerial}
 use Rattle.slots.proofs.Soundness.{Used}
@@ -26,11 +26,11 @@ use Rattle.table.specs.Closing.{closeOf}
 use Rattle.table.specs.Inquiring.{inquireOf}
 use Rattle.table.proofs.Outcomes.{refusing, serving}
 use Rattle.table.proofs.Allowed.{may-open}
-use Rattle.stored.specs.Bytes.{tableBytes, tableOf}
-use Rattle.stored.specs.Calls.{Done, refusal, done, onBytes, silent}
-use Rattle.stored.proofs.SlotBytes.{Fits}
-use Rattle.stored.proofs.TableBytes.{Machine, length-tableBytes, bytes-tableOf, tableOf-bytes, machine-tableOf, fresh-bytes}
-use Rattle.stored.proofs.OnBytes.{served-on}
+use Rattle.slots.specs.Bytes.{tableBytes, tableOf}
+use Rattle.table.specs.OnBytes.{Done, refusal, done, onBytes, silent}
+use Rattle.slots.proofs.SlotBytes.{Fits}
+use Rattle.slots.proofs.TableBytes.{Machine, length-tableBytes, bytes-tableOf, tableOf-bytes, machine-tableOf, fresh-bytes}
+use Rattle.table.proofs.OnBytes.{served-on}
 use Rattle.demands.specs.Calls.{Call, opens, reseeds, draws, freshDraws, closes, inquires, reply, number, after, run, lent}
 use Rattle.demands.specs.InBytes.{inBytes, inBytesAll}
 use Rattle.demands.proofs.Outcome.{Outcome, outcome}

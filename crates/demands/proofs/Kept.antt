@@ -5,7 +5,7 @@ use mathlib.Core.Logic.{_≢_}
 use Prim.Native.Nat.{ℕ, _+_, _%_}
 use Rattle.slots.specs.Layout.{freeSlot, slotAt, lastSerial}
 use Rattle.slots.specs.Handle.{slotOf}
-use Rattle.slots.specs.declared.layout.Table.{Table}
+use Rattle.slots.specs.Layout.{Table}
 use Rattle.slots.proofs.Slots.{slotAt-same, slotAt-other, lastSerial-withSlot, slotAt-withLastSerial}
 use Rattle.slots.proofs.Soundness.{sound-has}
 use Rattle.slots.proofs.Handles.{slot-below}

@@ -18,7 +18,7 @@ use Rattle.slots.specs.Layout.{freeSlot, withSlot, lastSerial, withLastSerial, 
 use Rattle.slots.specs.Sound.{sound}
 use Rattle.slots.specs.Handle.{handleOf, slotOf, names, lookUp, named, lowestFree}
 use Rattle.slots.specs.declared.slot.Slot.{Slot}
-use Rattle.slots.specs.declared.layout.Table.{Table}
+use Rattle.slots.specs.Layout.{Table}
 use Rattle.slots.proofs.Soundness.{Used, used-sound, free-sound, sound-fresh, sound-withSlot, sound-opened}
 use Rattle.slots.proofs.Handles.{named-is, sound-named, lowest-most}
 use Rattle.table.specs.Answers.{Reply, stepped, installed, withGenerator, generatorOf}

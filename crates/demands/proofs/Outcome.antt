@@ -4,7 +4,7 @@ use mathlib.Core.Bool.{Bool, true, false, cond}
 use mathlib.Core.List.{[]}
 use Prim.Native.Nat.{ℕ}
 use lib.Dec.{eqb}
-use Rattle.slots.specs.declared.layout.Table.{Table}
+use Rattle.slots.specs.Layout.{Table}
 use Rattle.table.specs.Reasons.{Reasons, firstOf}
 use Rattle.table.specs.Answers.{Reply, decided}
 use Rattle.table.specs.Opening.{openReasons, openOf}
@@ -13,7 +13,7 @@ use Rattle.table.specs.Drawing.{drawReasons, drawOf}
 use Rattle.table.specs.FreshDrawing.{freshDrawReasons, freshDrawOf}
 use Rattle.table.specs.Closing.{closeReasons, closeOf}
 use Rattle.table.specs.Inquiring.{inquireReasons, inquireOf}
-use Rattle.table.specs.declared.answers.Answer.{Answer}
+use Rattle.table.specs.Answers.{Answer}
 use Rattle.table.proofs.FirstReason.{numbered}
 use Rattle.table.proofs.Outcomes.{Decision, decision}
 use Rattle.demands.specs.Outcomes.{refusal, service}

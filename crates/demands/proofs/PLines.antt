@@ -16,7 +16,7 @@ use Rattle.slots.specs.Layout.{slotAt, lastSerial, freshTable}
 use Rattle.slots.specs.Sound.{sound, soundSlots, soundSlot, freeSound, allZero}
 use Rattle.slots.specs.Handle.{handleOf, slotOf, names, lookUp, lowestFree}
 use Rattle.slots.specs.declared.slot.Slot.{Slot}
-use Rattle.slots.specs.declared.layout.Table.{Table}
+use Rattle.slots.specs.Layout.{Table}
 use Rattle.slots.proofs.Soundness.{sound-fresh}
 use Rattle.slots.proofs.Handles.{names-fresh}
 use Rattle.table.specs.Reasons.{Reasons, _when_else_, firstOf, rounded}

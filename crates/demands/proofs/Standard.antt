@@ -19,14 +19,14 @@ use Rattle.slots.specs.Layout.{slotAt, withSlot, lastSerial}
 use Rattle.slots.specs.Sound.{sound}
 use Rattle.slots.specs.Handle.{handleOf, slotOf, lookUp, named, lowestFree}
 use Rattle.slots.specs.declared.slot.Slot.{Slot}
-use Rattle.slots.specs.declared.layout.Table.{Table}
+use Rattle.slots.specs.Layout.{Table}
 use Rattle.slots.proofs.Slots.{slotAt-same, slotAt-withLastSerial, lastSerial-withLastSerial}
 use Rattle.slots.proofs.Soundness.{sound-has}
 use Rattle.slots.proofs.Handles.{named-is, sound-named, slot-below, lowest-most, handle-slot}
 use Rattle.table.specs.Reasons.{rounded}
 use Rattle.table.specs.Answers.{Reply, stepped, installed, withGenerator, newSlot}
 use Rattle.table.specs.Served.{mechanismIn, stateIn}
-use Rattle.table.specs.declared.answers.Answer.{Answer}
+use Rattle.table.specs.Answers.{Answer}
 use Rattle.table.proofs.Outcomes.{refusing, serving}
 use Rattle.table.proofs.Standing.{sized-in}
 use Rattle.table.proofs.Allowed.{may-open, may-reseed, may-draw, may-draw-fresh}

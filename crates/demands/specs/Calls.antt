@@ -6,7 +6,7 @@ use lib.ListN.{length}
 use Rattle.slots.specs.Layout.{lastSerial}
 use Rattle.slots.specs.Sound.{sound}
 use Rattle.slots.specs.Handle.{slotOf, lookUp, named, lowestFree}
-use Rattle.slots.specs.declared.layout.Table.{Table}
+use Rattle.slots.specs.Layout.{Table}
 use Rattle.table.specs.Reasons.{Reasons}
 use Rattle.table.specs.Answers.{Reply}
 use Rattle.table.specs.Opening.{openReasons, openOf}
@@ -15,7 +15,7 @@ use Rattle.table.specs.Drawing.{drawReasons, drawOf}
 use Rattle.table.specs.FreshDrawing.{freshDrawReasons, freshDrawOf}
 use Rattle.table.specs.Closing.{closeReasons, closeOf}
 use Rattle.table.specs.Inquiring.{inquireReasons, inquireOf}
-use Rattle.table.specs.declared.answers.Answer.{Answer}
+use Rattle.table.specs.Answers.{Answer}
 
 -- a draw lends its output, with the bytes that it holds so far
 pub data Call : Type 0 where

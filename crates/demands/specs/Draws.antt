@@ -5,8 +5,8 @@ use mathlib.Core.Bool.{Bool, false, _&&_, cond}
 use mathlib.Core.List.{List, [], _∷_}
 use lib.Dec.{eqb}
 use Rattle.slots.specs.Handle.{slotOf}
-use Rattle.slots.specs.declared.layout.Table.{Table}
-use Rattle.table.specs.declared.answers.Answer.{Answer}
+use Rattle.slots.specs.Layout.{Table}
+use Rattle.table.specs.Answers.{Answer}
 use Rattle.demands.specs.Calls.{Call, opens, reseeds, draws, freshDraws, closes, inquires, answer, after}
 
 -- draws left = interval + 1 − counter

@@ -3,8 +3,8 @@ use Prim.Native.Nat.{ℕ, _/_, _<_}
 use mathlib.Core.Bool.{cond}
 use mathlib.Core.List.{List, [], _∷_, _++_}
 use lib.Dec.{eqb}
-use Rattle.slots.specs.declared.layout.Table.{Table}
-use Rattle.table.specs.declared.answers.Answer.{Answer}
+use Rattle.slots.specs.Layout.{Table}
+use Rattle.table.specs.Answers.{Answer}
 use Rattle.demands.specs.Calls.{Call, opens, reseeds, draws, freshDraws, closes, inquires, answer, after}
 
 -- a served opening gives one handle, its value

@@ -1,7 +1,7 @@
 -- A call where the table stands in the caller's bytes: what it tells, and what the bytes and the lent output then are.
 use Prim.Native.Nat.{ℕ}
 use mathlib.Core.List.{List, [], _∷_}
-use Rattle.stored.specs.Calls.{Done, onBytes}
+use Rattle.table.specs.OnBytes.{Done, onBytes}
 use Rattle.demands.specs.Calls.{Call, reply, lent}
 
 abbrev pub inBytes : Call → (s : List ℕ) → Done

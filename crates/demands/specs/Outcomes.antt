@@ -8,11 +8,11 @@ use Rattle.drbg.specs.Generator.{standing}
 use Rattle.slots.specs.Layout.{freeSlot, withSlot, lastSerial}
 use Rattle.slots.specs.Handle.{handleOf, slotOf, lowestFree}
 use Rattle.slots.specs.declared.slot.Slot.{Slot}
-use Rattle.slots.specs.declared.layout.Table.{Table}
+use Rattle.slots.specs.Layout.{Table}
 use Rattle.table.specs.Reasons.{Reasons, served, _when_else_, rounded}
 use Rattle.table.specs.Answers.{Reply, refused, accepted, stepped, steppedDraw, withGenerator, newSlot, installed}
 use Rattle.table.specs.Served.{stateIn, opened, reseeded, drawn, freshDrawn}
-use Rattle.table.specs.declared.answers.Answer.{Answer}
+use Rattle.table.specs.Answers.{Answer}
 use Rattle.demands.specs.Calls.{Call, opens, reseeds, draws, freshDraws, closes, inquires, lent}
 use Rattle.demands.specs.Draws.{left}
 

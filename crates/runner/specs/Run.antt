@@ -6,7 +6,7 @@ use mathlib.Core.Path.{_≡_}
 use mathlib.Core.List.{List, [], _++_}
 use lib.Dec.{eqb}
 use lib.ListN.{replicate}
-use Rattle.stored.specs.Calls.{Done}
+use Rattle.table.specs.OnBytes.{Done}
 use Rattle.demands.specs.Calls.{Call, opens, reseeds, draws, freshDraws, closes, inquires}
 use Rattle.demands.specs.InBytes.{inBytes}
 use Rattle.book.specs.Lines.{line, badLine}

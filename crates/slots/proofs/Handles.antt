@@ -12,7 +12,7 @@ use Rattle.slots.specs.Layout.{slotAt, lastSerial, freshTable}
 use Rattle.slots.specs.Sound.{sound}
 use Rattle.slots.specs.Handle.{handleOf, inUse, slotOf, names, lookUp, named, lowestFree}
 use Rattle.slots.specs.declared.slot.Slot.{Slot}
-use Rattle.slots.specs.declared.layout.Table.{Table}
+use Rattle.slots.specs.Layout.{Table}
 use Rattle.slots.specs.declared.handle.Found.{Found}
 use Rattle.slots.specs.declared.handle.Found.the-variants.{At, Nothing}
 use Rattle.slots.proofs.Flags.{both, and-both, by-test}

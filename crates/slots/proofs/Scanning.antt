@@ -14,7 +14,7 @@ use lib.Seq.{take-all}
 use Rattle.slots.specs.Layout.{slotAt, lastSerial}
 use Rattle.slots.specs.Sound.{allZero, between, freeNumbers, usedNumbers, freeSound, usedSound, soundSlot, soundSlots}
 use Rattle.slots.specs.declared.slot.Slot.{Slot}
-use Rattle.slots.specs.declared.layout.Table.{Table}
+use Rattle.slots.specs.Layout.{Table}
 use Rattle.slots.proofs.Zeros.{all-zero-split}
 
 -- a counter against interval + 1, by its predecessor against the interval

@@ -7,7 +7,7 @@ use lib.ListN.{length, getD, replicate, set, getD-replicate}
 use lib.Seq.{getD-set-same, getD-set-other, set-set, set-getD}
 use Rattle.slots.specs.Layout.{freeSlot, noSlot, slotAt, withSlot, lastSerial, withLastSerial, freshTable}
 use Rattle.slots.specs.declared.slot.Slot.{Slot}
-use Rattle.slots.specs.declared.layout.Table.{Table}
+use Rattle.slots.specs.Layout.{Table}
 
 -- slot i is there: so for i below 16 in every table that the code holds, and in every sound one
 pub record Has (t : Table) (i : ℕ) : Type 0 where

@@ -14,7 +14,7 @@ use Rattle.slots.specs.Layout.{freeSlot, noSlot, slotAt, withSlot, lastS
 use Rattle.slots.specs.Sound.{allZero, between, freeField, usedField, freeSound, usedSound, soundSlot, soundSlots, sound}
 use Rattle.slots.specs.Handle.{inUse}
 use Rattle.slots.specs.declared.slot.Slot.{Slot}
-use Rattle.slots.specs.declared.layout.Table.{Table}
+use Rattle.slots.specs.Layout.{Table}
 use Rattle.slots.proofs.Flags.{both, and-both, either, or-first, or-second}
 use Rattle.slots.proofs.Zeros.{all-zero-is}
 use Rattle.slots.proofs.Slots.{Has, slotAt-cases, lastSerial-withSlot, slotAt-withLastSerial, lastSerial-withLastSerial}

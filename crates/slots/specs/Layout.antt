@@ -1,11 +1,14 @@
 -- The table's slots and its last serial. Definitions and proofs reach them through these alone, so that a change of the layout
 -- moves a handful of laws.
 use Prim.Native.Nat.{ℕ}
-use mathlib.Core.Path.{_≡_}
 use mathlib.Core.List.{List, []}
 use lib.ListN.{getD, set, replicate}
 use Rattle.slots.specs.declared.slot.Slot.{Slot}
-use Rattle.slots.specs.declared.layout.Table.{Table}
+
+-- document 01's table: 16 slots and the last serial
+pub record Table : Type 0 where
+  pub slots : List Slot
+  pub last : ℕ
 
 -- every number zero, with this for both fields
 abbrev pub zeroSlot : List ℕ → Slot
@@ -21,10 +24,6 @@ noSlot = zeroSlot []
 
 unfoldable pub slotAt : Table → ℕ → Slot
 slotAt t i = getD (t .slots) i noSlot
-
--- these are the table's slots, in their order
-pub record Lists (slots : List Slot) (t : Table) : Type 0 where
-  pub at : (i : ℕ) → getD slots i noSlot ≡ slotAt t i
 
 unfoldable pub withSlot : Table → ℕ → Slot → Table
 withSlot t i s = record { slots = set (t .slots) i s; last = t .last }

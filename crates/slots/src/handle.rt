@@ -1,9 +1,10 @@
-// Handle = 16 × serial + slot.
+// Where a handle leads, and the lowest free slot.
 use crate::layout;
-use crate::layout::Table;
 ghost use mathlib.Core.Path.{_≡_};
 ghost use Prim.Native.Nat.{_-_, _≤_, _<_};
+ghost use lib.ListN.{length};
 ghost use Rattle.slots.specs.Handle.{lookUp, handleOf, lowestFree};
+ghost use Rattle.slots.specs.Bytes.{tableOf};
 
 // Where a handle leads.
 pub enum Found {
@@ -11,11 +12,12 @@ pub enum Found {
     Nothing,
 }
 
-pub fn look_up(t: Table, handle: u64) -> Found
-    ensures { λ r. ⌜ r ≡ lookUp t handle ⌝ }
+pub fn look_up(table: &[u8], handle: u64) -> Found
+    requires { ⌜ length (now table) ≡ 2148 ⌝ }
+    ensures { λ r. ⌜ r ≡ lookUp (tableOf (now (table .entry))) handle ⌝ }
 {
     let i = (handle % 16) as usize;
-    let s = layout::slot_at(t, i);
+    let s = layout::slot_at(table, i);
     if (s.mechanism != 0) & (s.serial as u64 == handle / 16) {
         return Found::At(i);
     }
@@ -30,14 +32,13 @@ pub fn handle_of(serial: u32, i: usize) -> u64
 }
 
 // The lowest free slot of those from `from` to `to`, or `to`.
-pub fn lowest_free(t: Table, from: usize, to: usize) -> usize
-    requires { ⌜ (from ≤ to) × (to ≤ 16) ⌝ }
-    ensures { λ r. ⌜ r ≡ lowestFree t from (to - from) ⌝ }
+pub fn lowest_free(table: &[u8], from: usize, to: usize) -> usize
+    requires { ⌜ (length (now table) ≡ 2148) × (from ≤ to) × (to ≤ 16) ⌝ }
+    ensures { λ r. ⌜ r ≡ lowestFree (tableOf (now (table .entry))) from (to - from) ⌝ }
 {
-    let slots = layout::all_slots(t);
     let mut i = from;
     while i < to {
-        let s = slots[i];
+        let s = layout::slot_at(table, i);
         if s.mechanism == 0 {
             return i;
         }

@@ -1,56 +1,43 @@
-// The table. Only these functions know how it is laid out.
+// The table in its 2,148 bytes: 16 slots of 134, then the last serial. Only these functions know where each stands.
+use crate::numbers;
 use crate::slot;
 use crate::slot::Slot;
 ghost use mathlib.Core.Path.{_≡_};
 ghost use Prim.Native.Nat.{_<_};
-ghost use Rattle.slots.specs.Layout.{Lists, slotAt, withSlot, lastSerial, withLastSerial, freshTable};
+ghost use lib.ListN.{length};
+ghost use Rattle.slots.specs.Layout.{slotAt, withSlot, lastSerial, withLastSerial};
+ghost use Rattle.slots.specs.Bytes.{tableOf, tableBytes};
 
-pub struct Table {
-    pub slots: [Slot; 16],
-    pub last: u32,
+pub fn slot_at(table: &[u8], i: usize) -> Slot
+    requires { ⌜ (length (now table) ≡ 2148) × (i < 16) ⌝ }
+    ensures { λ r. ⌜ r ≡ slotAt (tableOf (now (table .entry))) i ⌝ }
+{
+    let at = 134 * i;
+    let end = at + 134;
+    slot::slot_from(&table[at..end])
 }
 
-pub fn fresh_table() -> Table
-    ensures { λ r. ⌜ r ≡ freshTable ⌝ }
+pub fn put_slot(table: &mut [u8], i: usize, s: Slot)
+    requires { ⌜ (length (now table) ≡ 2148) × (i < 16) ⌝ }
+    ensures { λ _. ⌜ now (table .exit) ≡ tableBytes (withSlot (tableOf (now (table .entry))) i s) ⌝ }
 {
-    let free = slot::free_slot();
-    let slots = [free; 16];
-    Table { slots, last: 0 }
+    let at = 134 * i;
+    let end = at + 134;
+    slot::put(&mut table[at..end], s);
 }
 
-pub fn slot_at(t: Table, i: usize) -> Slot
-    requires { ⌜ i < 16 ⌝ }
-    ensures { λ r. ⌜ r ≡ slotAt t i ⌝ }
+pub fn last_serial(table: &[u8]) -> u32
+    requires { ⌜ length (now table) ≡ 2148 ⌝ }
+    ensures { λ r. ⌜ r ≡ lastSerial (tableOf (now (table .entry))) ⌝ }
 {
-    t.slots[i]
+    numbers::u32_at(table, 2144)
 }
 
-// All slots at once, for a loop over them: slot_at in a loop would copy the table at every turn.
-pub fn all_slots(t: Table) -> [Slot; 16]
-    ensures { λ r. ⌜ Lists r t ⌝ }
+// A new generator in slot i, with its serial as the last one.
+pub fn put_new_slot(table: &mut [u8], i: usize, serial: u32, s: Slot)
+    requires { ⌜ (length (now table) ≡ 2148) × (i < 16) ⌝ }
+    ensures { λ _. ⌜ now (table .exit) ≡ tableBytes (withLastSerial (withSlot (tableOf (now (table .entry))) i s) serial) ⌝ }
 {
-    t.slots
-}
-
-pub fn with_slot(t: Table, i: usize, s: Slot) -> Table
-    requires { ⌜ i < 16 ⌝ }
-    ensures { λ r. ⌜ r ≡ withSlot t i s ⌝ }
-{
-    let mut next = t;
-    next.slots[i] = s;
-    next
-}
-
-pub fn last_serial(t: Table) -> u32
-    ensures { λ r. ⌜ r ≡ lastSerial t ⌝ }
-{
-    t.last
-}
-
-pub fn with_last_serial(t: Table, serial: u32) -> Table
-    ensures { λ r. ⌜ r ≡ withLastSerial t serial ⌝ }
-{
-    let mut next = t;
-    next.last = serial;
-    next
+    put_slot(table, i, s);
+    numbers::put_u32(table, 2144, serial);
 }

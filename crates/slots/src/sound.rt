@@ -1,23 +1,13 @@
-// Whether a table is sound. No early exits: the tests of all 16 slots are joined, so that they can be done side by side.
+// Whether the bytes are a sound table. Bytes of any other length are none.
 use crate::layout;
-use crate::layout::Table;
-use crate::slot::Slot;
+use crate::numbers;
 ghost use mathlib.Core.Path.{_≡_};
-ghost use Prim.Native.Nat.{_+_, _-_, _≤_};
-ghost use lib.ListN.{take, drop};
+ghost use Prim.Native.Nat.{_+_, _≤_};
+ghost use lib.ListN.{length};
 ghost use Rattle.slots.specs.Sound.{allZero, between, freeNumbers, usedNumbers, soundSlot, sound};
-
-// Bytes `from` to `to` of a field are zero.
-fn zero_between(field: [u8; 55], from: usize, to: usize) -> bool
-    requires { ⌜ (from ≤ to) × (to ≤ 55) ⌝ }
-    ensures { λ r. ⌜ r ≡ allZero (take (to - from) (drop from field)) ⌝ }
-{
-    let mut zero = true;
-    for i in from..to {
-        zero = zero & (field[i] == 0);
-    }
-    zero
-}
+ghost use Rattle.slots.specs.Numbers.{part};
+ghost use Rattle.slots.specs.Slots.{slotFrom};
+ghost use Rattle.slots.specs.Bytes.{tableOf, soundBytes};
 
 // Any interval: interval + 1 may not fit.
 fn counter_fits(counter: u64, interval: u64) -> bool
@@ -64,42 +54,72 @@ pub fn used_numbers(
         & ((1 <= serial) & (serial <= last))
 }
 
-pub fn slot_is_sound(s: Slot, last: u32) -> bool
-    ensures { λ r. ⌜ r ≡ soundSlot last s ⌝ }
+// Eight bytes at once: a load, where a loop over bytes is as many loads.
+fn zero_at(s: &[u8], at: usize) -> bool
+    requires { ⌜ at + 8 ≤ length (now s) ⌝ }
+    ensures { λ r. ⌜ r ≡ allZero (part at 8 (now (s .entry))) ⌝ }
 {
-    let first = s.first;
-    let second = s.second;
-    let front = zero_between(first, 0, 32) & zero_between(second, 0, 32);
-    let rest = zero_between(first, 32, 55) & zero_between(second, 32, 55);
-    let free = free_numbers(
-        s.mechanism,
-        s.strength,
-        s.interval,
-        s.counter,
-        s.fresh,
-        s.serial,
-    );
-    let used = used_numbers(
-        s.mechanism,
-        s.strength,
-        s.interval,
-        s.counter,
-        s.fresh,
-        s.serial,
-        last,
-    );
-    (free & front & rest) | (used & ((s.mechanism == 2) | rest))
+    numbers::u64_at(s, at) == 0
 }
 
-pub fn is_sound(t: Table) -> bool
-    ensures { λ r. ⌜ r ≡ sound t ⌝ }
+// The first 32 bytes of the field at `at` are zero.
+fn front_is_zero(s: &[u8], at: usize) -> bool
+    requires { ⌜ at + 55 ≤ length (now s) ⌝ }
+    ensures { λ r. ⌜ r ≡ allZero (part at 32 (now (s .entry))) ⌝ }
 {
-    let last = layout::last_serial(t);
-    let slots = layout::all_slots(t);
+    zero_at(s, at) & zero_at(s, at + 8) & zero_at(s, at + 16) & zero_at(s, at + 24)
+}
+
+// And the other 23: the last two of the three eights share a byte.
+fn rest_is_zero(s: &[u8], at: usize) -> bool
+    requires { ⌜ at + 55 ≤ length (now s) ⌝ }
+    ensures { λ r. ⌜ r ≡ allZero (part (at + 32) 23 (now (s .entry))) ⌝ }
+{
+    zero_at(s, at + 32) & zero_at(s, at + 40) & zero_at(s, at + 47)
+}
+
+// One slot, in its 134 bytes. Of a used slot's fields only the bytes behind K and V are looked at, so that nothing hangs on a secret.
+fn slot_is_sound(s: &[u8], last: u32) -> bool
+    requires { ⌜ length (now s) ≡ 134 ⌝ }
+    ensures { λ r. ⌜ r ≡ soundSlot last (slotFrom (now (s .entry))) ⌝ }
+{
+    let mechanism = s[0];
+    let strength = numbers::u16_at(s, 1);
+    let interval = numbers::u64_at(s, 3);
+    let counter = numbers::u64_at(s, 11);
+    let fresh = s[19];
+    let serial = numbers::u32_at(s, 20);
+    let rest = rest_is_zero(s, 24) & rest_is_zero(s, 79);
+    if mechanism == 0 {
+        let front = front_is_zero(s, 24) & front_is_zero(s, 79);
+        return free_numbers(mechanism, strength, interval, counter, fresh, serial)
+            & front
+            & rest;
+    }
+    used_numbers(mechanism, strength, interval, counter, fresh, serial, last)
+        & ((mechanism == 2) | rest)
+}
+
+// All 16 slots, read where they stand. No early exits: their tests are joined.
+fn all_sound(table: &[u8]) -> bool
+    requires { ⌜ length (now table) ≡ 2148 ⌝ }
+    ensures { λ r. ⌜ r ≡ sound (tableOf (now (table .entry))) ⌝ }
+{
+    let last = layout::last_serial(table);
     let mut all = true;
     for i in 0..16 {
-        let s = slots[i];
-        all = all & slot_is_sound(s, last);
+        let at = 134 * i;
+        let end = at + 134;
+        all = all & slot_is_sound(&table[at..end], last);
     }
     all
+}
+
+pub fn is_sound(table: &[u8]) -> bool
+    ensures { λ r. ⌜ r ≡ soundBytes (now (table .entry)) ⌝ }
+{
+    if table.len() != 2148 {
+        return false;
+    }
+    all_sound(table)
 }

@@ -12,7 +12,7 @@ use Rattle.slots.specs.Layout.{freeSlot, slotAt, withSlot, lastSerial}
 use Rattle.slots.specs.Sound.{sound}
 use Rattle.slots.specs.Handle.{lookUp, named, lowestFree}
 use Rattle.slots.specs.declared.slot.Slot.{Slot}
-use Rattle.slots.specs.declared.layout.Table.{Table}
+use Rattle.slots.specs.Layout.{Table}
 use Rattle.slots.proofs.Handles.{lowest-most}
 use Rattle.table.specs.Reasons.{Reasons, firstOf, rounded}
 use Rattle.table.specs.Answers.{refused, accepted, refusedDraw, stepped, steppedDraw, newSlot, installed}

@@ -10,7 +10,7 @@ use Rattle.slots.specs.Layout.{lastSerial, slotAt}
 use Rattle.slots.specs.Sound.{sound}
 use Rattle.slots.specs.Handle.{slotOf, lookUp, named}
 use Rattle.slots.specs.declared.slot.Slot.{Slot}
-use Rattle.slots.specs.declared.layout.Table.{Table}
+use Rattle.slots.specs.Layout.{Table}
 use Rattle.slots.specs.declared.handle.Found.{Found}
 use Rattle.slots.specs.declared.handle.Found.the-variants.{At, Nothing}
 use Rattle.slots.proofs.Soundness.{Used}

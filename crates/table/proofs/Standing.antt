@@ -21,7 +21,7 @@ use Rattle.slots.specs.Layout.{freeSlot, withSlot, lastSerial, withLastSerial}
 use Rattle.slots.specs.Sound.{allZero, sound}
 use Rattle.slots.specs.Handle.{slotOf, names}
 use Rattle.slots.specs.declared.slot.Slot.{Slot}
-use Rattle.slots.specs.declared.layout.Table.{Table}
+use Rattle.slots.specs.Layout.{Table}
 use Rattle.slots.proofs.Flags.{or-first, or-second}
 use Rattle.slots.proofs.Zeros.{all-zero-replicate}
 use Rattle.slots.proofs.Soundness.{Field, Used, used-sound, free-sound, sound-withSlot, sound-opened}

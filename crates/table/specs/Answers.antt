@@ -9,9 +9,14 @@ use Rattle.drbg.specs.declared.generator.Served.{Served}
 use Rattle.slots.specs.Layout.{slotAt, withSlot, withLastSerial}
 use Rattle.slots.specs.Handle.{handleOf}
 use Rattle.slots.specs.declared.slot.Slot.{Slot}
-use Rattle.slots.specs.declared.layout.Table.{Table}
+use Rattle.slots.specs.Layout.{Table}
 use Rattle.table.specs.Reasons.{Reasons, firstOf}
-use Rattle.table.specs.declared.answers.Answer.{Answer}
+
+pub record Answer : Type 0 where
+  pub number : ℕ
+  pub table : Table
+  pub blocks : ℕ
+  pub value : ℕ
 
 -- 1 to 14: the table comes back equal, count and value are 0
 abbrev pub refused : Table → (number : ℕ) → Answer

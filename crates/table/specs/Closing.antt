@@ -4,10 +4,10 @@ use mathlib.Core.Bool.{Bool, not}
 use Rattle.slots.specs.Layout.{freeSlot, withSlot}
 use Rattle.slots.specs.Sound.{sound}
 use Rattle.slots.specs.Handle.{lookUp, named}
-use Rattle.slots.specs.declared.layout.Table.{Table}
+use Rattle.slots.specs.Layout.{Table}
 use Rattle.table.specs.Reasons.{Reasons, served, _when_else_}
 use Rattle.table.specs.Answers.{refused, accepted, decided}
-use Rattle.table.specs.declared.answers.Answer.{Answer}
+use Rattle.table.specs.Answers.{Answer}
 
 unfoldable pub closeReasons : (sound named : Bool) → Reasons
 closeReasons sound named =

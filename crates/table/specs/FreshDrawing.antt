@@ -6,7 +6,7 @@ use lib.Dec.{eqb, ltb}
 use lib.ListN.{length}
 use Rattle.slots.specs.Sound.{sound}
 use Rattle.slots.specs.Handle.{slotOf, lookUp, named}
-use Rattle.slots.specs.declared.layout.Table.{Table}
+use Rattle.slots.specs.Layout.{Table}
 use Rattle.table.specs.Reasons.{Reasons, served, _when_else_, outside}
 use Rattle.table.specs.Answers.{Reply, refusedDraw, decided, steppedDraw}
 use Rattle.table.specs.Served.{freshDrawn}

@@ -7,11 +7,11 @@ use lib.ListN.{length}
 use Rattle.slots.specs.Layout.{lastSerial}
 use Rattle.slots.specs.Sound.{sound}
 use Rattle.slots.specs.Handle.{lowestFree}
-use Rattle.slots.specs.declared.layout.Table.{Table}
+use Rattle.slots.specs.Layout.{Table}
 use Rattle.table.specs.Reasons.{Reasons, served, _when_else_, outside, rounded}
 use Rattle.table.specs.Answers.{refused, decided, newSlot, installed}
 use Rattle.table.specs.Served.{opened}
-use Rattle.table.specs.declared.answers.Answer.{Answer}
+use Rattle.table.specs.Answers.{Answer}
 
 -- slot is the lowest free one, 16 where there is none, and last the last serial
 unfoldable pub openReasons : (sound : Bool) (mechanism strength interval entropy nonce personalization slot last : ℕ) → Reasons

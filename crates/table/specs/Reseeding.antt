@@ -6,11 +6,11 @@ use lib.Dec.{ltb}
 use lib.ListN.{length}
 use Rattle.slots.specs.Sound.{sound}
 use Rattle.slots.specs.Handle.{slotOf, lookUp, named}
-use Rattle.slots.specs.declared.layout.Table.{Table}
+use Rattle.slots.specs.Layout.{Table}
 use Rattle.table.specs.Reasons.{Reasons, served, _when_else_, outside}
 use Rattle.table.specs.Answers.{refused, decided, stepped}
 use Rattle.table.specs.Served.{reseeded}
-use Rattle.table.specs.declared.answers.Answer.{Answer}
+use Rattle.table.specs.Answers.{Answer}
 
 -- own is the generator's own strength
 unfoldable pub reseedReasons : (sound named : Bool) (own entropy additional : ℕ) → Reasons

@@ -1,39 +1,38 @@
-// What a call hands back, and the generator in a slot.
+// What a call on bytes hands back beside the bytes.
+use slots::layout;
 use drbg::generator::Generator;
 use drbg::generator::Served;
-use slots::handle;
-use slots::layout;
-use slots::layout::Table;
 use slots::slot::Slot;
 ghost use mathlib.Core.Path.{_≡_};
+ghost use mathlib.Core.List.{[]};
 ghost use Prim.Native.Nat.{_<_};
+ghost use lib.ListN.{length};
 ghost use Rattle.slots.specs.Layout.{slotAt};
-ghost use Rattle.table.specs.Answers.{refused, accepted, generatorOf, withGenerator, stepped, newSlot, installed};
+ghost use Rattle.table.specs.Answers.{generatorOf, withGenerator, stepped, newSlot};
+ghost use Rattle.slots.specs.Bytes.{tableOf};
+ghost use Rattle.table.specs.OnBytes.{refusal, acceptance, done};
 
-pub struct Answer {
+pub struct Told {
     pub number: u64,
-    pub table: Table,
     pub blocks: u64,
     pub value: u64,
 }
 
-pub fn refused(t: Table, number: u64) -> Answer
-    ensures { λ r. ⌜ r ≡ refused t number ⌝ }
+pub fn refused(number: u64) -> Told
+    ensures { λ r. ⌜ r ≡ refusal number ⌝ }
 {
-    Answer {
+    Told {
         number,
-        table: t,
         blocks: 0,
         value: 0,
     }
 }
 
-pub fn accepted(t: Table, blocks: u64, value: u64) -> Answer
-    ensures { λ r. ⌜ r ≡ accepted t blocks value ⌝ }
+pub fn accepted(blocks: u64, value: u64) -> Told
+    ensures { λ r. ⌜ r ≡ acceptance blocks value ⌝ }
 {
-    Answer {
+    Told {
         number: 0,
-        table: t,
         blocks,
         value,
     }
@@ -69,16 +68,14 @@ pub fn with_generator(s: Slot, g: Generator) -> Slot
 }
 
 // The generator in slot i, which is s, has made its step.
-pub fn stepped(t: Table, i: usize, s: Slot, served: Served) -> Answer
-    requires { ⌜ (i < 16) × (s ≡ slotAt t i) ⌝ }
-    ensures { λ r. ⌜ r ≡ stepped t i served ⌝ }
+pub fn stepped(table: &mut [u8], i: usize, s: Slot, served: Served) -> Told
+    requires { ⌜ (length (now table) ≡ 2148) × (i < 16) × (s ≡ slotAt (tableOf (now table)) i) ⌝ }
+    ensures { λ r. ⌜ record { told = r; table = now (table .exit); output = [] }
+        ≡ done (record { answer = stepped (tableOf (now (table .entry))) i served; output = [] }) ⌝ }
 {
     let g = served.generator;
-    accepted(
-        layout::with_slot(t, i, with_generator(s, g)),
-        served.blocks,
-        0,
-    )
+    layout::put_slot(table, i, with_generator(s, g));
+    accepted(served.blocks, 0)
 }
 
 pub fn new_slot(
@@ -103,13 +100,4 @@ pub fn new_slot(
         first,
         second,
     }
-}
-
-// A new generator in slot i.
-pub fn installed(t: Table, i: usize, serial: u32, s: Slot, blocks: u64) -> Answer
-    requires { ⌜ i < 16 ⌝ }
-    ensures { λ r. ⌜ r ≡ installed t i serial s blocks ⌝ }
-{
-    let next = layout::with_last_serial(layout::with_slot(t, i, s), serial);
-    accepted(next, blocks, handle::handle_of(serial, i))
 }

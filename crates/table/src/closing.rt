@@ -1,23 +1,26 @@
 // SP 800-90A §9.4: every field of the slot goes to zero.
 use crate::answers;
-use crate::answers::Answer;
+use crate::answers::Told;
 use slots::handle;
-use slots::handle::Found;
 use slots::layout;
-use slots::layout::Table;
-use slots::slot;
 use slots::sound;
+use slots::handle::Found;
+use slots::slot;
 ghost use mathlib.Core.Path.{_≡_};
+ghost use mathlib.Core.List.{[]};
 ghost use Rattle.table.specs.Closing.{closeOf};
+ghost use Rattle.table.specs.OnBytes.{onBytes, silent};
 
-pub fn close(t: Table, handle: u64) -> Answer
-    ensures { λ r. ⌜ r ≡ closeOf t handle ⌝ }
+pub fn close(table: &mut [u8], handle: u64) -> Told
+    ensures { λ r. ⌜ record { told = r; table = now (table .exit); output = [] }
+        ≡ onBytes (silent (λ t. closeOf t handle)) (now (table .entry)) [] ⌝ }
 {
-    if !sound::is_sound(t) {
-        return answers::refused(t, 1);
+    if !sound::is_sound(table) {
+        return answers::refused(1);
     }
-    let Found::At(i) = handle::look_up(t, handle) else {
-        return answers::refused(t, 2);
+    let Found::At(i) = handle::look_up(table, handle) else {
+        return answers::refused(2);
     };
-    answers::accepted(layout::with_slot(t, i, slot::free_slot()), 0, 0)
+    layout::put_slot(table, i, slot::free_slot());
+    answers::accepted(0, 0)
 }

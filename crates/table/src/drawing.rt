@@ -1,17 +1,18 @@
 // SP 800-90A §9.3, without prediction resistance: a plain draw never reseeds.
 use crate::answers;
-use crate::answers::Answer;
+use crate::answers::Told;
 use crate::reasons;
-use drbg::generator;
 use slots::handle;
-use slots::handle::Found;
 use slots::layout;
-use slots::layout::Table;
 use slots::sound;
+use drbg::generator;
+use slots::handle::Found;
+use crate::answers::generator_of;
 ghost use mathlib.Core.Path.{_≡_};
-ghost use mathlib.Core.Bool.{true};
 ghost use Rattle.table.specs.Reasons.{firstOf};
+ghost use mathlib.Core.Bool.{true};
 ghost use Rattle.table.specs.Drawing.{drawReasons, drawOf};
+ghost use Rattle.table.specs.OnBytes.{onBytes};
 
 // The first reason, 0 where there is none, once the table is sound and the handle names a generator of strength `own`.
 pub fn reason(
@@ -30,17 +31,17 @@ pub fn reason(
     reasons::or_else(n, interval < counter, 12)
 }
 
-pub fn draw(t: Table, handle: u64, strength: u64, out: &mut [u8], additional: &[u8]) -> Answer
-    ensures { λ r. ⌜ record { answer = r; output = now (out .exit) }
-        ≡ drawOf t handle strength (now (out .entry)) (now (additional .entry)) ⌝ }
+pub fn draw(table: &mut [u8], handle: u64, strength: u64, out: &mut [u8], additional: &[u8]) -> Told
+    ensures { λ r. ⌜ record { told = r; table = now (table .exit); output = now (out .exit) }
+        ≡ onBytes (λ t. drawOf t handle strength (now (out .entry)) (now (additional .entry))) (now (table .entry)) (now (out .entry)) ⌝ }
 {
-    if !sound::is_sound(t) {
-        return answers::refused(t, 1);
+    if !sound::is_sound(table) {
+        return answers::refused(1);
     }
-    let Found::At(i) = handle::look_up(t, handle) else {
-        return answers::refused(t, 2);
+    let Found::At(i) = handle::look_up(table, handle) else {
+        return answers::refused(2);
     };
-    let s = layout::slot_at(t, i);
+    let s = layout::slot_at(table, i);
     let n = reason(
         s.strength,
         s.interval,
@@ -50,8 +51,8 @@ pub fn draw(t: Table, handle: u64, strength: u64, out: &mut [u8], additional: &[
         additional.len(),
     );
     if n != 0 {
-        return answers::refused(t, n);
+        return answers::refused(n);
     }
-    let served = generator::drawn(s.mechanism, answers::generator_of(s), out, additional);
-    answers::stepped(t, i, s, served)
+    let served = generator::drawn(s.mechanism, generator_of(s), out, additional);
+    answers::stepped(table, i, s, served)
 }

@@ -1,17 +1,18 @@
 // SP 800-90A §9.3, with prediction resistance: a reseed, then a draw with no additional input. Reseed due is no reason here.
 use crate::answers;
-use crate::answers::Answer;
+use crate::answers::Told;
 use crate::reasons;
-use drbg::generator;
 use slots::handle;
-use slots::handle::Found;
 use slots::layout;
-use slots::layout::Table;
 use slots::sound;
+use drbg::generator;
+use slots::handle::Found;
+use crate::answers::generator_of;
 ghost use mathlib.Core.Path.{_≡_};
-ghost use mathlib.Core.Bool.{true};
 ghost use Rattle.table.specs.Reasons.{firstOf};
+ghost use mathlib.Core.Bool.{true};
 ghost use Rattle.table.specs.FreshDrawing.{freshDrawReasons, freshDrawOf};
+ghost use Rattle.table.specs.OnBytes.{onBytes};
 
 // The first reason, 0 where there is none, once the table is sound and the handle names a generator of strength `own`.
 pub fn reason(
@@ -33,23 +34,24 @@ pub fn reason(
 }
 
 pub fn fresh_draw<'a>(
-    t: Table,
+    table: &mut [u8],
     handle: u64,
     strength: u64,
     out: &mut [u8],
     entropy: &'a [u8],
     additional: &'a [u8],
-) -> Answer
-    ensures { λ r. ⌜ record { answer = r; output = now (out .exit) }
-        ≡ freshDrawOf t handle strength (now (out .entry)) (now (entropy .entry)) (now (additional .entry)) ⌝ }
+) -> Told
+    ensures { λ r. ⌜ record { told = r; table = now (table .exit); output = now (out .exit) }
+        ≡ onBytes (λ t. freshDrawOf t handle strength (now (out .entry)) (now (entropy .entry)) (now (additional .entry)))
+        (now (table .entry)) (now (out .entry)) ⌝ }
 {
-    if !sound::is_sound(t) {
-        return answers::refused(t, 1);
+    if !sound::is_sound(table) {
+        return answers::refused(1);
     }
-    let Found::At(i) = handle::look_up(t, handle) else {
-        return answers::refused(t, 2);
+    let Found::At(i) = handle::look_up(table, handle) else {
+        return answers::refused(2);
     };
-    let s = layout::slot_at(t, i);
+    let s = layout::slot_at(table, i);
     let n = reason(
         s.strength,
         s.fresh,
@@ -59,14 +61,8 @@ pub fn fresh_draw<'a>(
         additional.len(),
     );
     if n != 0 {
-        return answers::refused(t, n);
+        return answers::refused(n);
     }
-    let served = generator::fresh_drawn(
-        s.mechanism,
-        answers::generator_of(s),
-        out,
-        entropy,
-        additional,
-    );
-    answers::stepped(t, i, s, served)
+    let served = generator::fresh_drawn(s.mechanism, generator_of(s), out, entropy, additional);
+    answers::stepped(table, i, s, served)
 }

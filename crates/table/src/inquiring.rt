@@ -1,23 +1,25 @@
 // How many draws are left.
 use crate::answers;
-use crate::answers::Answer;
+use crate::answers::Told;
 use slots::handle;
-use slots::handle::Found;
 use slots::layout;
-use slots::layout::Table;
 use slots::sound;
+use slots::handle::Found;
 ghost use mathlib.Core.Path.{_≡_};
+ghost use mathlib.Core.List.{[]};
 ghost use Rattle.table.specs.Inquiring.{inquireOf};
+ghost use Rattle.table.specs.OnBytes.{onBytes, silent};
 
-pub fn inquire(t: Table, handle: u64) -> Answer
-    ensures { λ r. ⌜ r ≡ inquireOf t handle ⌝ }
+pub fn inquire(table: &[u8], handle: u64) -> Told
+    ensures { λ r. ⌜ record { told = r; table = now (table .entry); output = [] }
+        ≡ onBytes (silent (λ t. inquireOf t handle)) (now (table .entry)) [] ⌝ }
 {
-    if !sound::is_sound(t) {
-        return answers::refused(t, 1);
+    if !sound::is_sound(table) {
+        return answers::refused(1);
     }
-    let Found::At(i) = handle::look_up(t, handle) else {
-        return answers::refused(t, 2);
+    let Found::At(i) = handle::look_up(table, handle) else {
+        return answers::refused(2);
     };
-    let s = layout::slot_at(t, i);
-    answers::accepted(t, 0, s.interval + 1 - s.counter)
+    let s = layout::slot_at(table, i);
+    answers::accepted(0, s.interval + 1 - s.counter)
 }

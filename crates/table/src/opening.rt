@@ -1,15 +1,18 @@
 // SP 800-90A §9.1: an opening takes the next serial and the lowest free slot.
 use crate::answers;
-use crate::answers::Answer;
-use crate::reasons;
-use drbg::generator;
+use crate::answers::Told;
 use slots::handle;
 use slots::layout;
-use slots::layout::Table;
 use slots::sound;
+use drbg::generator;
+use slots::handle::handle_of;
+use crate::answers::new_slot;
+use crate::reasons;
 ghost use mathlib.Core.Path.{_≡_};
 ghost use Rattle.table.specs.Reasons.{firstOf};
+ghost use mathlib.Core.List.{[]};
 ghost use Rattle.table.specs.Opening.{openReasons, openOf};
+ghost use Rattle.table.specs.OnBytes.{onBytes, silent};
 
 // The first reason, 0 where there is none.
 pub fn reason(
@@ -38,7 +41,7 @@ pub fn reason(
 }
 
 pub fn open<'a>(
-    t: Table,
+    table: &mut [u8],
     mechanism: u64,
     strength: u64,
     interval: u64,
@@ -46,14 +49,18 @@ pub fn open<'a>(
     entropy: &'a [u8],
     nonce: &'a [u8],
     personalization: &'a [u8],
-) -> Answer
-    ensures { λ r. ⌜ r
-        ≡ openOf t mechanism strength interval fresh (now (entropy .entry)) (now (nonce .entry)) (now (personalization .entry)) ⌝ }
+) -> Told
+    ensures { λ r. ⌜ record { told = r; table = now (table .exit); output = [] }
+        ≡ onBytes (silent (λ t. openOf t mechanism strength interval fresh
+        (now (entropy .entry)) (now (nonce .entry)) (now (personalization .entry)))) (now (table .entry)) [] ⌝ }
 {
-    let i = handle::lowest_free(t, 0, 16);
-    let last = layout::last_serial(t);
+    if !sound::is_sound(table) {
+        return answers::refused(1);
+    }
+    let i = handle::lowest_free(table, 0, 16);
+    let last = layout::last_serial(table);
     let n = reason(
-        sound::is_sound(t),
+        true,
         mechanism,
         strength,
         interval,
@@ -64,12 +71,13 @@ pub fn open<'a>(
         last,
     );
     if n != 0 {
-        return answers::refused(t, n);
+        return answers::refused(n);
     }
     let kind = mechanism as u8;
     let serial = last + 1;
     let served = generator::opened(kind, entropy, nonce, personalization);
     let g = served.generator;
-    let s = answers::new_slot(kind, reasons::rounded(strength), interval, fresh, serial, g);
-    answers::installed(t, i, serial, s, served.blocks)
+    let s = new_slot(kind, reasons::rounded(strength), interval, fresh, serial, g);
+    layout::put_new_slot(table, i, serial, s);
+    answers::accepted(served.blocks, handle_of(serial, i))
 }

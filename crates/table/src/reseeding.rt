@@ -1,17 +1,19 @@
 // SP 800-90A §9.2.
 use crate::answers;
-use crate::answers::Answer;
+use crate::answers::Told;
 use crate::reasons;
-use drbg::generator;
 use slots::handle;
-use slots::handle::Found;
 use slots::layout;
-use slots::layout::Table;
 use slots::sound;
+use drbg::generator;
+use slots::handle::Found;
+use crate::answers::generator_of;
 ghost use mathlib.Core.Path.{_≡_};
-ghost use mathlib.Core.Bool.{true};
 ghost use Rattle.table.specs.Reasons.{firstOf};
+ghost use mathlib.Core.Bool.{true};
+ghost use mathlib.Core.List.{[]};
 ghost use Rattle.table.specs.Reseeding.{reseedReasons, reseedOf};
+ghost use Rattle.table.specs.OnBytes.{onBytes, silent};
 
 // The first reason, 0 where there is none, once the table is sound and the handle names a generator of strength `own`.
 pub fn reason(own: u16, entropy: usize, additional: usize) -> u64
@@ -22,20 +24,21 @@ pub fn reason(own: u16, entropy: usize, additional: usize) -> u64
     reasons::or_else(n, (entropy < least) | (1024 < entropy), 8)
 }
 
-pub fn reseed<'a>(t: Table, handle: u64, entropy: &'a [u8], additional: &'a [u8]) -> Answer
-    ensures { λ r. ⌜ r ≡ reseedOf t handle (now (entropy .entry)) (now (additional .entry)) ⌝ }
+pub fn reseed<'a>(table: &mut [u8], handle: u64, entropy: &'a [u8], additional: &'a [u8]) -> Told
+    ensures { λ r. ⌜ record { told = r; table = now (table .exit); output = [] }
+        ≡ onBytes (silent (λ t. reseedOf t handle (now (entropy .entry)) (now (additional .entry)))) (now (table .entry)) [] ⌝ }
 {
-    if !sound::is_sound(t) {
-        return answers::refused(t, 1);
+    if !sound::is_sound(table) {
+        return answers::refused(1);
     }
-    let Found::At(i) = handle::look_up(t, handle) else {
-        return answers::refused(t, 2);
+    let Found::At(i) = handle::look_up(table, handle) else {
+        return answers::refused(2);
     };
-    let s = layout::slot_at(t, i);
+    let s = layout::slot_at(table, i);
     let n = reason(s.strength, entropy.len(), additional.len());
     if n != 0 {
-        return answers::refused(t, n);
+        return answers::refused(n);
     }
-    let served = generator::reseeded(s.mechanism, answers::generator_of(s), entropy, additional);
-    answers::stepped(t, i, s, served)
+    let served = generator::reseeded(s.mechanism, generator_of(s), entropy, additional);
+    answers::stepped(table, i, s, served)
 }

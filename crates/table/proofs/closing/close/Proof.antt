@@ -1,45 +1,64 @@
--- Refused at the scan, at the look-up, or served. Assumes nothing.
-use mathlib.Core.Path.{_∙_}
-use Rattle.table.proofs.Outcomes.{Named, names-slot, unsound, sound-so, unnamed, below}
-use Rattle.table.proofs.Exits.{close-unsound, close-unnamed, close-served}
+-- No sound table, no such generator, or served. Assumes nothing.
+use mathlib.Core.Path.{refl, sym, ap, ap₂, _∙_}
+use mathlib.Core.List.{[]}
 use borrow.Author.Needs.{needs}
+use Rattle.slots.specs.Layout.{withSlot}
+use Rattle.table.proofs.Outcomes.{Named, names-slot, unnamed, below}
+use Rattle.table.proofs.Exits.{close-unsound, close-unnamed, close-served}
+use Rattle.slots.specs.Bytes.{tableBytes, tableOf}
+use Rattle.table.proofs.OnBytes.{Whole, whole, bytes-known, served-silent, refused-silent, unsound-silent}
 use Rattle.table.proofs.closing.close.Statement.{statement}
 use Rattle.table.proofs.closing.close.Tie as tie
 
+scanned : (c : tie.Else1) → Whole (c .before .before .before .before .args .table .now)
+scanned c = whole (c .before .is-sound .ensures) (c .if1 .left)
+
 names-it : (c : tie.After-known-told) →
-    let a = c .before .before .before .before .before .before .args in
-    Named (a .t) (a .handle) (c .before .i .given .0 .0)
+    let a = c .before .before .before .before .before .before .before .before .before .args in
+    Named (tableOf (a .table .now)) (a .handle) (c .before .i .given .0 .0)
 names-it c =
-    names-slot _ _ _ (c .before .before .before .before .before .is-sound .ensures) (c .before .before .before .before .if1 .left)
-    (c .before .before .before .look-up .ensures) (c .before .i .given .1)
+    names-slot _ _ _ (scanned (c .before .before .before .before .before) .sound) refl (c .before .before .before .look-up .ensures)
+    (c .before .i .given .1)
 
 returns : tie.Need-returns
 returns c =
-    let a = c .before .before .before .args in
-    c .refused .ensures ∙
-    close-unsound (a .t) (a .handle) (unsound (a .t) (c .before .before .is-sound .ensures) (c .before .if1 .taken))
+    let known = c .before .before .before .before in
+    let a = known .before .args in
+    unsound-silent _ _ (bytes-known (known .slice-known .given)) (c .refused .ensures) (c .before .before .is-sound .ensures)
+    (c .before .if1 .taken)
+    (close-unsound (tableOf (a .table .now)) (a .handle))
+
+look-up-requires : tie.Need-look-up-requires
+look-up-requires c κs = scanned (c .before) .sized
 
 returns-2 : tie.Need-returns-2
 returns-2 c =
-    let scanned = c .before .before .before .before in
-    let a = scanned .before .before .args in
-    c .refused2 .ensures ∙
-    close-unnamed (a .t) (a .handle) (sound-so (a .t) (scanned .before .is-sound .ensures) (scanned .if1 .left))
-    (unnamed (a .t) (a .handle) (c .before .before .before .look-up .ensures) (c .before .enum-told .given .1))
+    let known = c .before .before .before .before .before .before .before .before in
+    let a = known .before .args in
+    let t = tableOf (a .table .now) in
+    let w = scanned (c .before .before .before .before .before) in
+    refused-silent _ _ (bytes-known (known .slice-known .given)) (c .refused2 .ensures) (w .sized)
+    (close-unnamed t (a .handle) (sym (w .sound))
+    (unnamed t (a .handle) (c .before .before .before .look-up .ensures) (c .before .enum-told .given .1)))
 
-with-slot-requires : tie.Need-with-slot-requires
-with-slot-requires c κs = below (names-it (c .before))
+put-slot-requires : tie.Need-put-slot-requires
+put-slot-requires c κs = (scanned (c .before .before .before .before .before .before .before) .sized, below (names-it (c .before .before)))
 
 returns-3 : tie.Need-returns-3
 returns-3 c =
-    let told = c .before .before .before in
-    let a = told .before .before .before .before .before .before .args in
-    c .accepted .ensures ∙
-    rw (c .before .with-slot .ensures, c .before .before .free-slot .ensures) (close-served (a .t) (a .handle) (names-it told))
+    let made = c .before .before .before .before in
+    let told = made .before .before in
+    let a = told .before .before .before .before .before .before .before .before .before .args in
+    let t = tableOf (a .table .now) in
+    ap₂ (λ r e. record { told = r; table = e; output = [] }) (c .accepted .ensures)
+    (c .before .before .before .put-slot .ensures ∙ ap (λ x. tableBytes (withSlot t (told .before .i .given .0 .0) x))
+    (made .free-slot .ensures)) ∙
+    served-silent _ _ (scanned (told .before .before .before .before .before) .sized) (close-served t (a .handle) (names-it told))
 
 pub close-spec : {M : Type 1} → statement M
 close-spec =
     tie.close
     (tie.spec
-    (λ c κs. search needs) (λ c κs. search needs) returns (λ c κs. search needs) (λ c. search needs) (λ c. search needs)
-    (λ c κs. search needs) returns-2 (λ c κs. search needs) with-slot-requires (λ c κs. search needs) returns-3)
+    (λ c κs. search needs) (λ c κs. search needs) (λ c. search needs) returns look-up-requires (λ c. search needs) (λ c. search needs)
+    (λ c κs. search needs) (λ c. search needs) returns-2 (λ c κs. search needs) put-slot-requires (λ c κs. search needs)
+    (λ c. search needs) returns-3)

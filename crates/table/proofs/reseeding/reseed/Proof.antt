@@ -1,74 +1,91 @@
--- Refused at the scan, at the look-up, by a reason, or served. Assumes nothing.
-use mathlib.Core.Path.{_≡_, _∙_}
-use Rattle.table.proofs.Outcomes.{Named, names-slot, unsound, sound-so, unnamed, below}
-use Rattle.table.proofs.Exits.{reseed-unsound, reseed-unnamed, reseed-refused, reseed-served, reseed-allowed}
+-- No sound table, no such generator, refused by a reason, or served. Assumes nothing.
+use mathlib.Core.Path.{refl, sym, _∙_}
 use borrow.Author.Needs.{needs}
+use Rattle.table.proofs.Outcomes.{Named, names-slot, unnamed, below}
+use Rattle.table.proofs.Exits.{reseed-unsound, reseed-unnamed, reseed-refused, reseed-served, reseed-allowed}
+use Rattle.slots.specs.Bytes.{tableOf}
+use Rattle.table.proofs.OnBytes.{Whole, whole, bytes-known, served-silent, refused-silent, unsound-silent}
 use Rattle.table.proofs.reseeding.reseed.Statement.{statement}
 use Rattle.table.proofs.reseeding.reseed.Tie as tie
 
+scanned : (c : tie.Else1) → Whole (c .before .before .before .before .before .before .args .table .now)
+scanned c = whole (c .before .is-sound .ensures) (c .if1 .left)
+
 names-it : (c : tie.After-known-told) →
-    let a = c .before .before .before .before .before .before .before .before .args in
-    Named (a .t) (a .handle) (c .before .i .given .0 .0)
+    let a = c .before .before .before .before .before .before .before .before .before .before .before .args in
+    Named (tableOf (a .table .now)) (a .handle) (c .before .i .given .0 .0)
 names-it c =
-    names-slot _ _ _ (c .before .before .before .before .before .is-sound .ensures) (c .before .before .before .before .if1 .left)
-    (c .before .before .before .look-up .ensures) (c .before .i .given .1)
+    names-slot _ _ _ (scanned (c .before .before .before .before .before) .sound) refl (c .before .before .before .look-up .ensures)
+    (c .before .i .given .1)
 
 returns : tie.Need-returns
 returns c =
-    let a = c .before .before .before .before .before .args in
-    c .refused .ensures ∙
-    reseed-unsound (a .t) (a .handle) (a .entropy .now) (a .additional .now)
-    (unsound (a .t) (c .before .before .is-sound .ensures) (c .before .if1 .taken))
+    let known = c .before .before .before .before .before .before in
+    let a = known .before .args in
+    unsound-silent _ _ (bytes-known (known .slice-known .given)) (c .refused .ensures) (c .before .before .is-sound .ensures)
+    (c .before .if1 .taken)
+    (reseed-unsound (tableOf (a .table .now)) (a .handle) (a .entropy .now) (a .additional .now))
+
+look-up-requires : tie.Need-look-up-requires
+look-up-requires c κs = scanned (c .before) .sized
 
 returns-2 : tie.Need-returns-2
 returns-2 c =
-    let a = c .before .before .before .before .before .before .before .before .args in
-    c .refused2 .ensures ∙
-    reseed-unnamed (a .t) (a .handle) (a .entropy .now) (a .additional .now)
-    (sound-so (a .t) (c .before .before .before .before .before .is-sound .ensures) (c .before .before .before .before .if1 .left))
-    (unnamed (a .t) (a .handle) (c .before .before .before .look-up .ensures) (c .before .enum-told .given .1))
+    let known = c .before .before .before .before .before .before .before .before .before .before in
+    let a = known .before .args in
+    let t = tableOf (a .table .now) in
+    let w = scanned (c .before .before .before .before .before) in
+    refused-silent _ _ (bytes-known (known .slice-known .given)) (c .refused2 .ensures) (w .sized)
+    (reseed-unnamed t (a .handle) (a .entropy .now) (a .additional .now) (sym (w .sound))
+    (unnamed t (a .handle) (c .before .before .before .look-up .ensures) (c .before .enum-told .given .1)))
 
 slot-at-requires : tie.Need-slot-at-requires
-slot-at-requires c κs = below (names-it c)
+slot-at-requires c κs = (scanned (c .before .before .before .before .before .before) .sized, below (names-it (c .before)))
 
 returns-3 : tie.Need-returns-3
 returns-3 c =
-    let told = c .before .before .before .before in
-    let a = told .before .before .before .before .before .before .before .before .args in
-    c .refused3 .ensures ∙
-    reseed-refused (a .t) (a .handle) (a .entropy .now) (a .additional .now)
-    (names-it told) (c .before .before .before .slot-at .ensures) (c .before .before .reason .ensures) (c .before .if2 .taken)
+    let told = c .before .before .before .before .before in
+    let known = told .before .before .before .before .before .before .before .before .before .before in
+    let a = known .before .args in
+    refused-silent _ _ (bytes-known (known .slice-known .given)) (c .refused3 .ensures)
+    (scanned (told .before .before .before .before .before) .sized)
+    (reseed-refused (tableOf (a .table .now)) (a .handle) (a .entropy .now) (a .additional .now)
+    (names-it told) (c .before .before .before .slot-at .ensures) (c .before .before .reason .ensures) (c .before .if2 .taken))
 
 reseeded-requires : tie.Need-reseeded-requires
 reseeded-requires c κs =
     let made = c in
-    let told = made .before .before .before .before in
-    let a = told .before .before .before .before .before .before .before .before .args in
+    let told = made .before .before .before .before .before in
+    let a = told .before .before .before .before .before .before .before .before .before .before .before .args in
     let may =
-    reseed-allowed (a .t) (a .handle) (a .entropy .now) (a .additional .now)
+    reseed-allowed (tableOf (a .table .now)) (a .handle) (a .entropy .now) (a .additional .now)
     (names-it told) (made .before .before .before .slot-at .ensures) (made .before .before .reason .ensures) (made .before .if2 .left) in
     (may .entropy-most, may .additional-most)
 
 stepped-requires : tie.Need-stepped-requires
 stepped-requires c κs =
-    let told = c .before .before .before .before .before in
-    (below (names-it told), c .before .before .before .before .slot-at .ensures)
+    let told = c .before .before .before .before .before .before .before in (
+      scanned (told .before .before .before .before .before) .sized,
+      below (names-it told),
+      c .before .before .before .before .before .slot-at .ensures,
+    )
 
 returns-4 : tie.Need-returns-4
 returns-4 c =
-    let served = c .before in
+    let served = c .before .before .before .before in
     let made = served .before in
-    let told = made .before .before .before .before in
-    let a = told .before .before .before .before .before .before .before .before .args in
-    c .stepped .ensures ∙
-    reseed-served (a .t) (a .handle) (a .entropy .now) (a .additional .now)
+    let told = made .before .before .before .before .before in
+    let a = told .before .before .before .before .before .before .before .before .before .before .before .args in
+    c .before .before .stepped .ensures ∙
+    served-silent _ _ (scanned (told .before .before .before .before .before) .sized)
+    (reseed-served (tableOf (a .table .now)) (a .handle) (a .entropy .now) (a .additional .now)
     (names-it told) (made .before .before .before .slot-at .ensures) (made .before .before .reason .ensures) (made .before .if2 .left)
-    (rw (made .generator-of .ensures) at (served .reseeded .ensures .0))
+    (rw (made .generator-of .ensures) at (served .reseeded .ensures .0)))
 
 pub reseed-spec : {M : Type 1} → statement M
 reseed-spec =
     tie.close
     (tie.spec
-    (λ c κs. search needs) (λ c κs. search needs) returns (λ c κs. search needs) (λ c. search needs) (λ c. search needs)
-    (λ c κs. search needs) returns-2 slot-at-requires (λ c κs. search needs) (λ c κs. search needs) returns-3 (λ c κs. search needs)
-    reseeded-requires stepped-requires returns-4)
+    (λ c κs. search needs) (λ c κs. search needs) (λ c. search needs) returns look-up-requires (λ c. search needs) (λ c. search needs)
+    (λ c κs. search needs) (λ c. search needs) returns-2 slot-at-requires (λ c κs. search needs) (λ c κs. search needs)
+    (λ c. search needs) returns-3 (λ c κs. search needs) reseeded-requires stepped-requires (λ c. search needs) returns-4)

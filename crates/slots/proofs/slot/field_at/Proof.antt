@@ -1,0 +1,18 @@
+-- Assumes nothing.
+use mathlib.Core.Path.{refl, _∙_}
+use native.Mathlib.Omega.{arith}
+use borrow.Author.Needs.{needs}
+use Rattle.slots.proofs.LittleEndian.{part-copied}
+use Rattle.slots.proofs.slot.field_at.Statement.{statement}
+use Rattle.slots.proofs.slot.field_at.Tie as tie
+
+returns : tie.Need-returns
+returns c =
+    let a = c .before .before .before .before .before .args in
+    c .before .copy .ensures ∙ part-copied _ (a .s .now) (a .at) 55 refl (omega arith)
+
+pub field-at-spec : {M : Type 1} → statement M
+field-at-spec =
+    tie.close
+    (tie.spec
+    (λ c. search needs) (λ c. search needs) (λ c. search needs) (λ c. search needs) (λ c. search needs) (λ c κs. search needs) returns)
