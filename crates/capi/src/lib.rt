@@ -5,13 +5,8 @@ ghost use mathlib.Core.Path.{_≡_};
 ghost use mathlib.Core.List.{[]};
 ghost use mathlib.Core.Bool.{not};
 ghost use lib.Dec.{eqb};
-ghost use Rattle.table.specs.Opening.{openOf};
-ghost use Rattle.table.specs.Reseeding.{reseedOf};
-ghost use Rattle.table.specs.Drawing.{drawOf};
-ghost use Rattle.table.specs.FreshDrawing.{freshDrawOf};
-ghost use Rattle.table.specs.Closing.{closeOf};
-ghost use Rattle.table.specs.Inquiring.{inquireOf};
-ghost use Rattle.table.specs.OnBytes.{onBytes, silent};
+ghost use Rattle.table.specs.Calls.{opens, reseeds, draws, freshDraws, closes, inquires};
+ghost use Rattle.table.specs.OnBytes.{inBytes};
 ghost use Rattle.capi.specs.Left.{leaves};
 
 // What a call tells goes out by the result and the two pointers.
@@ -38,8 +33,8 @@ pub extern "C" fn purangsa_open<'a>(
     value: &mut u64,
 ) -> u64
     ensures { λ r. ⌜ leaves r (now (blocks .exit)) (now (value .exit)) (now (table .exit)) []
-        ≡ onBytes (silent (λ t. openOf t mechanism strength interval (not (eqb fresh 0))
-        (now (entropy .entry)) (now (nonce .entry)) (now (personalization .entry)))) (now (table .entry)) [] ⌝ }
+        ≡ inBytes (opens mechanism strength interval (not (eqb fresh 0)) (now (entropy .entry)) (now (nonce .entry)) (now (personalization .entry)))
+        (now (table .entry)) ⌝ }
 {
     tell(
         calls::open(
@@ -67,7 +62,8 @@ pub extern "C" fn purangsa_reseed<'a>(
     value: &mut u64,
 ) -> u64
     ensures { λ r. ⌜ leaves r (now (blocks .exit)) (now (value .exit)) (now (table .exit)) []
-        ≡ onBytes (silent (λ t. reseedOf t handle (now (entropy .entry)) (now (additional .entry)))) (now (table .entry)) [] ⌝ }
+        ≡ inBytes (reseeds handle (now (entropy .entry)) (now (additional .entry)))
+        (now (table .entry)) ⌝ }
 {
     tell(
         calls::reseed(table, handle, entropy, additional),
@@ -87,8 +83,8 @@ pub extern "C" fn purangsa_draw(
     value: &mut u64,
 ) -> u64
     ensures { λ r. ⌜ leaves r (now (blocks .exit)) (now (value .exit)) (now (table .exit)) (now (output .exit))
-        ≡ onBytes (λ t. drawOf t handle strength (now (output .entry)) (now (additional .entry)))
-        (now (table .entry)) (now (output .entry)) ⌝ }
+        ≡ inBytes (draws handle strength (now (output .entry)) (now (additional .entry)))
+        (now (table .entry)) ⌝ }
 {
     tell(
         calls::draw(table, handle, strength, output, additional),
@@ -109,8 +105,8 @@ pub extern "C" fn purangsa_fresh_draw<'a>(
     value: &mut u64,
 ) -> u64
     ensures { λ r. ⌜ leaves r (now (blocks .exit)) (now (value .exit)) (now (table .exit)) (now (output .exit))
-        ≡ onBytes (λ t. freshDrawOf t handle strength (now (output .entry)) (now (entropy .entry)) (now (additional .entry)))
-        (now (table .entry)) (now (output .entry)) ⌝ }
+        ≡ inBytes (freshDraws handle strength (now (output .entry)) (now (entropy .entry)) (now (additional .entry)))
+        (now (table .entry)) ⌝ }
 {
     tell(
         calls::fresh_draw(table, handle, strength, output, entropy, additional),
@@ -127,7 +123,8 @@ pub extern "C" fn purangsa_close(
     value: &mut u64,
 ) -> u64
     ensures { λ r. ⌜ leaves r (now (blocks .exit)) (now (value .exit)) (now (table .exit)) []
-        ≡ onBytes (silent (λ t. closeOf t handle)) (now (table .entry)) [] ⌝ }
+        ≡ inBytes (closes handle)
+        (now (table .entry)) ⌝ }
 {
     tell(calls::close(table, handle), blocks, value)
 }
@@ -141,7 +138,8 @@ pub extern "C" fn purangsa_inquire(
     value: &mut u64,
 ) -> u64
     ensures { λ r. ⌜ leaves r (now (blocks .exit)) (now (value .exit)) (now (table .entry)) []
-        ≡ onBytes (silent (λ t. inquireOf t handle)) (now (table .entry)) [] ⌝ }
+        ≡ inBytes (inquires handle)
+        (now (table .entry)) ⌝ }
 {
     tell(calls::inquire(table, handle), blocks, value)
 }

@@ -27,10 +27,11 @@ use Rattle.table.specs.Served.{mechanismIn, stateIn}
 use Rattle.table.specs.Answers.{Answer}
 use Rattle.table.proofs.FirstReason.{numbered, NoneHolds, none-holds}
 use Rattle.table.proofs.Allowed.{may-open, may-reseed, may-draw, may-draw-fresh}
-use Rattle.demands.specs.Calls.{Call, reply, answer, reasonsOf}
+use Rattle.demands.specs.Calls.{answer}
+use Rattle.table.specs.Calls.{Call, reply, reasonsOf}
 use Rattle.demands.specs.Alike.{Alike, openings, reseedings, drawings, fresh-drawings, closings, inquiries, AllAlike, none, more}
 use Rattle.demands.specs.Alike.{SameNumbers, AlikeTables, Told, toldOf, told}
-use Rattle.demands.specs.Outcomes.{refusal, service}
+use Rattle.table.specs.Calls.{refusal, service}
 use Rattle.demands.proofs.Outcome.{reply-decided, all-numbered}
 use Rattle.demands.proofs.Moves.{sound-after, counter-held, below-16}
 use Rattle.demands.proofs.Standard.{sized-by}

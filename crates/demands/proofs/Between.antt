@@ -15,7 +15,8 @@ use Rattle.slots.specs.Layout.{Table}
 use Rattle.slots.proofs.Handles.{named-is, names-used, names-serial, names-by, sound-named, lowest-most, handle-serial}
 use Rattle.table.specs.Answers.{Answer}
 use Rattle.table.proofs.Allowed.{may-open, may-reseed, may-draw-fresh}
-use Rattle.demands.specs.Calls.{Call, opens, reseeds, freshDraws, answer, number, after, afterAll}
+use Rattle.demands.specs.Calls.{answer, number, after, afterAll}
+use Rattle.table.specs.Calls.{Call, opens, reseeds, freshDraws}
 use Rattle.demands.specs.Draws.{drawsServed, NoReseed}
 use Rattle.demands.specs.Outcomes.{Follows}
 use Rattle.demands.proofs.Answered.{served-none}

@@ -26,8 +26,9 @@ use Rattle.table.specs.Answers.{Reply, stepped, installed, generatorOf}
 use Rattle.table.specs.Served.{mechanismIn, stateIn}
 use Rattle.table.proofs.Outcomes.{refusing, serving}
 use Rattle.table.proofs.Allowed.{may-open, may-reseed, may-draw, may-draw-fresh, may-close}
-use Rattle.demands.specs.Calls.{Call, opens, reseeds, draws, freshDraws, closes, inquires, answer, number, after, afterAll}
-use Rattle.demands.specs.Handles as Handles
+use Rattle.demands.specs.Calls.{answer, number, after, afterAll}
+use Rattle.table.specs.Calls.{Call, opens, reseeds, draws, freshDraws, closes, inquires}
+use Rattle.table.specs.Calls.{draw}
 use Rattle.demands.specs.Draws.{left, drewBy, drawsServed, reseededBy, NoReseed, none, more}
 use Rattle.demands.proofs.Outcome.{Outcome, outcome}
 use Rattle.demands.proofs.Answered.{served-is}
@@ -144,7 +145,7 @@ unnamed-drew h t (draws handle s o a) whole gone = go (ℕ-discrete handle h)
     go : Dec (handle ≡ h) → _≡_ {A = ℕ} (cond (eqb n 0 && eqb handle h) 1 0) 0
     go (yes same) =
         ap (λ k. cond (eqb k 0 && eqb handle h) 1 0)
-        (unnamed-2 t handle whole (subst (λ k. names t k ≡ false) (sym same) gone) (draws handle s o a) Handles.draw)
+        (unnamed-2 t handle whole (subst (λ k. names t k ≡ false) (sym same) gone) (draws handle s o a) draw)
     go (no other) = ap (λ b. cond (eqb n 0 && b) 1 0) (ne-eqb handle h other) ∙ and-false (eqb n 0)
 unnamed-drew h t (freshDraws handle s o e a) whole gone = refl
 unnamed-drew h t (closes handle) whole gone = refl

@@ -19,18 +19,19 @@ use Rattle.slots.proofs.Handles.{named-is, names-used, names-serial, names-fres
 use Rattle.slots.proofs.Handles.{handle-parts}
 use Rattle.table.specs.Reasons.{Reasons, _when_else_, firstOf}
 use Rattle.table.specs.Answers.{Reply}
-use Rattle.table.specs.Reseeding.{reseedReasons}
-use Rattle.table.specs.Drawing.{drawReasons}
-use Rattle.table.specs.FreshDrawing.{freshDrawReasons}
-use Rattle.table.specs.Closing.{closeReasons}
-use Rattle.table.specs.Inquiring.{inquireReasons}
+use Rattle.table.specs.Calls.{reseedReasons}
+use Rattle.table.specs.Calls.{drawReasons}
+use Rattle.table.specs.Calls.{freshDrawReasons}
+use Rattle.table.specs.Calls.{closeReasons}
+use Rattle.table.specs.Calls.{inquireReasons}
 use Rattle.table.proofs.Outcomes.{refused-by}
 use Rattle.table.proofs.Allowed.{may-close}
-use Rattle.demands.specs.Calls.{Call, closes, answer, number, after, afterAll, reasonsOf}
+use Rattle.demands.specs.Calls.{answer, number, after, afterAll}
+use Rattle.table.specs.Calls.{Call, closes, reasonsOf}
 use Rattle.demands.specs.Handles.{issuedBy, issued, Listed, here, there, Distinct, Rising}
-use Rattle.demands.specs.Handles.{Under, reseed, draw, fresh-draw, close, inquire}
+use Rattle.table.specs.Calls.{Under, reseed, draw, fresh-draw, close, inquire}
 use Rattle.demands.specs.Handles as H
-use Rattle.demands.specs.Outcomes.{refusal, service}
+use Rattle.table.specs.Calls.{refusal, service}
 use Rattle.demands.proofs.Outcome.{reply-decided}
 use Rattle.demands.proofs.Answered.{served-none}
 use Rattle.demands.proofs.Kept.{closing-frees}

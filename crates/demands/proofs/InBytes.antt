@@ -18,69 +18,42 @@ use Rattle.slots.proofs.Flags.{either}
 use Rattle.slots.proofs.Slots.{slotAt-cases, lastSerial-withSlot, lastSerial-withLastSerial}
 use Rattle.slots.proofs.Soundness.{Used}
 use Rattle.table.specs.Answers.{Reply, stepped, installed}
-use Rattle.table.specs.Opening.{openOf}
-use Rattle.table.specs.Reseeding.{reseedOf}
-use Rattle.table.specs.Drawing.{drawOf}
-use Rattle.table.specs.FreshDrawing.{freshDrawOf}
-use Rattle.table.specs.Closing.{closeOf}
-use Rattle.table.specs.Inquiring.{inquireOf}
 use Rattle.table.proofs.Outcomes.{refusing, serving}
 use Rattle.table.proofs.Allowed.{may-open}
 use Rattle.slots.specs.Bytes.{tableBytes, tableOf}
-use Rattle.table.specs.OnBytes.{Done, refusal, done, onBytes, silent}
+use Rattle.table.specs.OnBytes.{Done, toldRefused, done, inBytes}
 use Rattle.slots.proofs.SlotBytes.{Fits}
 use Rattle.slots.proofs.TableBytes.{Machine, length-tableBytes, bytes-tableOf, tableOf-bytes, machine-tableOf, fresh-bytes}
-use Rattle.table.proofs.OnBytes.{served-on}
-use Rattle.demands.specs.Calls.{Call, opens, reseeds, draws, freshDraws, closes, inquires, reply, number, after, run, lent}
-use Rattle.demands.specs.InBytes.{inBytes, inBytesAll}
+use Rattle.table.proofs.OnBytes.{replied-on}
+use Rattle.demands.specs.Calls.{number, after, run}
+use Rattle.table.specs.Calls.{Call, opens, reseeds, draws, freshDraws, closes, inquires, reply, lent}
+use Rattle.table.specs.OnBytes.{inBytes}
+use Rattle.demands.specs.InBytes.{inBytesAll}
 use Rattle.demands.proofs.Outcome.{Outcome, outcome}
 use Rattle.demands.proofs.Answered.{refusal-keeps}
 use Rattle.demands.proofs.Moves.{Moves, stays, adds, steps, ends, moved}
 
--- what the contracts of the calls on bytes say is this
-module _ (s : List ℕ) (handle strength : ℕ) (out entropy additional : List ℕ) where
-  pub draw-in-bytes : onBytes (λ t. drawOf t handle strength out additional) s out ≡ inBytes (draws handle strength out additional) s
-  draw-in-bytes = refl
-
-  pub fresh-draw-in-bytes : onBytes (λ t. freshDrawOf t handle strength out entropy additional) s out
-      ≡ inBytes (freshDraws handle strength out entropy additional) s
-  fresh-draw-in-bytes = refl
-
-  pub reseed-in-bytes : onBytes (silent (λ t. reseedOf t handle entropy additional)) s [] ≡ inBytes (reseeds handle entropy additional) s
-  reseed-in-bytes = refl
-
-  pub close-in-bytes : onBytes (silent (λ t. closeOf t handle)) s [] ≡ inBytes (closes handle) s
-  close-in-bytes = refl
-
-  pub inquire-in-bytes : onBytes (silent (λ t. inquireOf t handle)) s [] ≡ inBytes (inquires handle) s
-  inquire-in-bytes = refl
-
-pub open-in-bytes : (s : List ℕ) (mechanism strength interval : ℕ) (fresh : Bool) (entropy nonce personalization : List ℕ)
-    → onBytes (silent (λ t. openOf t mechanism strength interval fresh entropy nonce personalization)) s []
-    ≡ inBytes (opens mechanism strength interval fresh entropy nonce personalization) s
-open-in-bytes s mechanism strength interval fresh entropy nonce personalization = refl
-
 module _ (c : Call) (s : List ℕ) where
   -- bytes of any other length are answered 1, and nothing is changed
-  pub other-length : (length s ≡ 2148 → ⊥) → inBytes c s ≡ record { told = refusal 1; table = s; output = lent c }
-  unfolding onBytes
+  pub other-length : (length s ≡ 2148 → ⊥) → inBytes c s ≡ record { told = toldRefused 1; table = s; output = lent c }
+  unfolding inBytes
   other-length h =
-      ap (λ b. cond b (done (reply (tableOf s) c)) (record { told = refusal 1; table = s; output = lent c })) (ne-eqb (length s) 2148 h)
+      ap (λ b. cond b (done (reply (tableOf s) c)) (record { told = toldRefused 1; table = s; output = lent c })) (ne-eqb (length s) 2148 h)
 
   -- a refusal changes no byte of the table or of the output, and tells 0 blocks and value 0
   pub refusal-keeps-bytes : Bytes s → (inBytes c s .told .number ≡ 0 → ⊥)
-      → inBytes c s ≡ record { told = refusal (inBytes c s .told .number); table = s; output = lent c }
-  unfolding onBytes
+      → inBytes c s ≡ record { told = toldRefused (inBytes c s .told .number); table = s; output = lent c }
+  unfolding inBytes
   refusal-keeps-bytes b = go (eqb (length s) 2148) refl
     where
       found : Bool → Done
-      found long = cond long (done (reply (tableOf s) c)) (record { told = refusal 1; table = s; output = lent c })
+      found long = cond long (done (reply (tableOf s) c)) (record { told = toldRefused 1; table = s; output = lent c })
 
       go : (long : Bool) → eqb (length s) 2148 ≡ long → (found long .told .number ≡ 0 → ⊥)
-          → found long ≡ record { told = refusal (found long .told .number); table = s; output = lent c }
+          → found long ≡ record { told = toldRefused (found long .told .number); table = s; output = lent c }
       go true long some =
           ap done (refusal-keeps (tableOf s) c some) ∙
-          ap (λ u. record { told = refusal (number (tableOf s) c); table = u; output = lent c })
+          ap (λ u. record { told = toldRefused (number (tableOf s) c); table = u; output = lent c })
           (bytes-tableOf s b (eqb-true (length s) 2148 long))
       go false long some = refl
 
@@ -159,7 +132,7 @@ machine-after t c m = machine-moved (moved t c) m (last-after t c (last-small t 
 -- after a call the bytes are the table that follows
 pub after-in-bytes : (c : Call) (s : List ℕ) → Bytes s → length s ≡ 2148 → tableOf (inBytes c s .table) ≡ after (tableOf s) c
 after-in-bytes c s b sized =
-    ap (λ (d : Done). tableOf (d .table)) (sym (served-on (λ t. reply t c) s (lent c) sized refl)) ∙
+    ap (λ (d : Done). tableOf (d .table)) (sym (replied-on c s sized refl)) ∙
     tableOf-bytes (after (tableOf s) c) (machine-after (tableOf s) c (machine-tableOf s b sized))
 
 -- sequences: every theorem here on sequences from a fresh table speaks of the caller's own bytes, zeros at first
@@ -167,7 +140,7 @@ all-in-bytes : (t : Table) (cs : List Call) → Machine t → inBytesAll (tableB
 all-in-bytes t [] m = refl
 all-in-bytes t (c ∷ cs) m =
     let first : inBytes c (tableBytes t) ≡ done (reply t c) =
-    sym (served-on (λ u. reply u c) (tableBytes t) (lent c) (length-tableBytes t m) refl) ∙
+    sym (replied-on c (tableBytes t) (length-tableBytes t m) refl) ∙
     ap (λ u. done (reply u c)) (tableOf-bytes t m) in
     ap₂ _∷_ first (ap (λ (d : Done). inBytesAll (d .table) cs) first ∙ all-in-bytes (after t c) cs (machine-after t c m))
 

@@ -12,7 +12,8 @@ use Rattle.slots.proofs.Handles.{slot-below}
 use Rattle.table.specs.Answers.{Reply, stepped, installed}
 use Rattle.table.proofs.Outcomes.{refusing, serving}
 use Rattle.table.proofs.Allowed.{may-close}
-use Rattle.demands.specs.Calls.{Call, opens, reseeds, draws, freshDraws, closes, inquires, number, after, own}
+use Rattle.demands.specs.Calls.{number, after, own}
+use Rattle.table.specs.Calls.{Call, opens, reseeds, draws, freshDraws, closes, inquires}
 use Rattle.demands.specs.Calls.{NoOpening, reseeding, drawing, drawing-fresh, closing, inquiring}
 use Rattle.demands.proofs.Outcome.{Outcome, outcome}
 use Rattle.demands.proofs.Answered.{served-is, served-none}

@@ -26,7 +26,8 @@ use Rattle.table.specs.Served.{mechanismIn, stateIn}
 use Rattle.table.proofs.Outcomes.{refusing, serving}
 use Rattle.table.proofs.Standing.{used-standing, used-new, sized-in}
 use Rattle.table.proofs.Allowed.{may-open, may-reseed, may-draw, may-draw-fresh, may-close}
-use Rattle.demands.specs.Calls.{Call, opens, reseeds, draws, freshDraws, closes, inquires, answer, after, afterAll}
+use Rattle.demands.specs.Calls.{answer, after, afterAll}
+use Rattle.table.specs.Calls.{Call, opens, reseeds, draws, freshDraws, closes, inquires}
 use Rattle.demands.specs.Handles.{issuedBy}
 use Rattle.demands.proofs.Outcome.{Outcome, outcome}
 

@@ -21,10 +21,12 @@ use Rattle.slots.proofs.Soundness.{sound-fresh}
 use Rattle.slots.proofs.Handles.{names-fresh}
 use Rattle.table.specs.Reasons.{Reasons, _when_else_, firstOf, rounded}
 use Rattle.table.specs.Answers.{decided}
-use Rattle.table.specs.Opening.{openReasons}
-use Rattle.table.specs.Closing.{closeReasons, closeOf}
-use Rattle.demands.specs.Calls.{Call, opens, closes, answer, number, after, reasonsOf}
-use Rattle.demands.specs.Handles.{Under, close}
+use Rattle.table.specs.Calls.{reply}
+use Rattle.table.specs.Calls.{openReasons}
+use Rattle.table.specs.Calls.{closeReasons}
+use Rattle.demands.specs.Calls.{answer, number, after}
+use Rattle.table.specs.Calls.{Call, opens, closes, reasonsOf}
+use Rattle.table.specs.Calls.{Under, close}
 use Rattle.demands.proofs.Answered.{number-first}
 use Rattle.demands.proofs.Handles.{unnamed-2}
 use Rattle.demands.proofs.Standard.{open-standard}
@@ -118,7 +120,7 @@ table =
 
 -- lines 1 to 8 hold
 pub table-holds : All Holds table
-unfolding table Standard.table ceiling HashDrbg.stepped numberOf bytesOf rounded firstOf openReasons closeOf decided closeReasons
+unfolding table Standard.table ceiling HashDrbg.stepped numberOf bytesOf rounded firstOf openReasons reply decided closeReasons
     lookUp names
     sound soundSlots soundSlot freeSound allZero slotAt lastSerial freshTable lowestFree
 table-holds = all-by computed stated holds table refl

@@ -30,7 +30,8 @@ use Rattle.table.specs.Answers.{Answer}
 use Rattle.table.proofs.Outcomes.{refusing, serving}
 use Rattle.table.proofs.Standing.{sized-in}
 use Rattle.table.proofs.Allowed.{may-open, may-reseed, may-draw, may-draw-fresh}
-use Rattle.demands.specs.Calls.{Call, opens, reseeds, draws, freshDraws, closes, inquires, reply, answer, number, after}
+use Rattle.demands.specs.Calls.{answer, number, after}
+use Rattle.table.specs.Calls.{Call, opens, reseeds, draws, freshDraws, closes, inquires, reply}
 use Rattle.demands.specs.Calls as Calls
 use Rattle.demands.specs.Draws.{left}
 use Rattle.demands.specs.Outcomes.{Follows, Begins}

@@ -9,7 +9,8 @@ use Rattle.slots.specs.declared.slot.Slot.{Slot}
 use Rattle.slots.specs.Layout.{Table}
 use Rattle.table.specs.Answers.{Reply}
 use Rattle.table.specs.Answers.{Answer}
-use Rattle.demands.specs.Calls.{Call, opens, reseeds, draws, freshDraws, closes, inquires, run}
+use Rattle.demands.specs.Calls.{run}
+use Rattle.table.specs.Calls.{Call, opens, reseeds, draws, freshDraws, closes, inquires}
 
 pub data Alike : Call → Call → Type 0 where
   openings : {mechanism strength interval : ℕ} {fresh : Bool} {e e′ n n′ p p′ : List ℕ} → length e ≡ length e′ → length n ≡ length n′

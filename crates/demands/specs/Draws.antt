@@ -7,7 +7,8 @@ use lib.Dec.{eqb}
 use Rattle.slots.specs.Handle.{slotOf}
 use Rattle.slots.specs.Layout.{Table}
 use Rattle.table.specs.Answers.{Answer}
-use Rattle.demands.specs.Calls.{Call, opens, reseeds, draws, freshDraws, closes, inquires, answer, after}
+use Rattle.demands.specs.Calls.{answer, after}
+use Rattle.table.specs.Calls.{Call, opens, reseeds, draws, freshDraws, closes, inquires}
 
 -- draws left = interval + 1 − counter
 abbrev pub left : (handle : ℕ) → Table → ℕ

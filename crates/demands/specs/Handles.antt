@@ -5,7 +5,8 @@ use mathlib.Core.List.{List, [], _∷_, _++_}
 use lib.Dec.{eqb}
 use Rattle.slots.specs.Layout.{Table}
 use Rattle.table.specs.Answers.{Answer}
-use Rattle.demands.specs.Calls.{Call, opens, reseeds, draws, freshDraws, closes, inquires, answer, after}
+use Rattle.demands.specs.Calls.{answer, after}
+use Rattle.table.specs.Calls.{Call, opens, reseeds, draws, freshDraws, closes, inquires}
 
 -- a served opening gives one handle, its value
 abbrev pub issuedBy : Call → Answer → List ℕ
@@ -34,11 +35,3 @@ pub data Distinct : List ℕ → Type 0 where
 pub data Rising : (serial : ℕ) → List ℕ → Type 0 where
   none : {serial : ℕ} → Rising serial []
   more : {serial handle : ℕ} {l : List ℕ} → serial < handle / 16 → Rising (handle / 16) l → Rising serial (handle ∷ l)
-
--- the calls that name a handle
-pub data Under (handle : ℕ) : Call → Type 0 where
-  reseed : {entropy additional : List ℕ} → Under handle (reseeds handle entropy additional)
-  draw : {strength : ℕ} {out additional : List ℕ} → Under handle (draws handle strength out additional)
-  fresh-draw : {strength : ℕ} {out entropy additional : List ℕ} → Under handle (freshDraws handle strength out entropy additional)
-  close : Under handle (closes handle)
-  inquire : Under handle (inquires handle)

@@ -1,11 +1,8 @@
 -- A call where the table stands in the caller's bytes: what it tells, and what the bytes and the lent output then are.
 use Prim.Native.Nat.{ℕ}
 use mathlib.Core.List.{List, [], _∷_}
-use Rattle.table.specs.OnBytes.{Done, onBytes}
-use Rattle.demands.specs.Calls.{Call, reply, lent}
-
-abbrev pub inBytes : Call → (s : List ℕ) → Done
-inBytes c s = onBytes (λ t. reply t c) s (lent c)
+use Rattle.table.specs.OnBytes.{Done, inBytes}
+use Rattle.table.specs.Calls.{Call}
 
 -- a sequence of calls, each on the bytes that the last one left
 abbrev pub inBytesAll : (s : List ℕ) → List Call → List Done

@@ -13,37 +13,13 @@ use Rattle.table.specs.Reasons.{Reasons, served, _when_else_, rounded}
 use Rattle.table.specs.Answers.{Reply, refused, accepted, stepped, steppedDraw, withGenerator, newSlot, installed}
 use Rattle.table.specs.Served.{stateIn, opened, reseeded, drawn, freshDrawn}
 use Rattle.table.specs.Answers.{Answer}
-use Rattle.demands.specs.Calls.{Call, opens, reseeds, draws, freshDraws, closes, inquires, lent}
+use Rattle.table.specs.Calls.{Call, opens, reseeds, draws, freshDraws, closes, inquires, lent}
 use Rattle.demands.specs.Draws.{left}
 
 -- the numbers of a list of reasons, in their order
 abbrev pub numbersOf : Reasons → List ℕ
 numbersOf served = []
 numbersOf (number when holds else rest) = number ∷ numbersOf rest
-
--- refused: the table and the lent output as they were, 0 blocks and value 0
-abbrev pub refusal : Table → Call → (n : ℕ) → Reply
-refusal t c n = record { answer = refused t n; output = lent c }
-
--- what is served where no reason holds
-abbrev pub service : Table → Call → Reply
-service t (opens mechanism strength interval fresh entropy nonce personalization) =
-    let new = opened mechanism entropy nonce personalization in
-    record {
-      answer =
-          installed t (lowestFree t 0 16) (lastSerial t + 1)
-          (newSlot mechanism (rounded strength) interval fresh (lastSerial t + 1) (new .generator)) (new .blocks);
-      output = [];
-    }
-service t (reseeds handle entropy additional) =
-    record { answer = stepped t (handle % 16) (reseeded (slotOf t handle) entropy additional); output = [] }
-service t (draws handle strength out additional) = steppedDraw t (handle % 16) (drawn (slotOf t handle) (length out) additional)
-service t (freshDraws handle strength out entropy additional) =
-    steppedDraw t (handle % 16) (freshDrawn (slotOf t handle) (length out) entropy additional)
-service t (closes handle) = record { answer = accepted (withSlot t (handle % 16) freeSlot) 0 0; output = [] }
-service t (inquires handle) =
-    let s = slotOf t handle in
-    record { answer = accepted t 0 (s .interval + 1 - s .counter); output = [] }
 
 -- the generator under the handle has made its step to this state, and the rest of its slot is as it was
 pub record Follows (t : Table) (h : ℕ) (a : Answer) (st : State) (blocks : ℕ) : Type 0 where

@@ -7,8 +7,8 @@ use mathlib.Core.List.{List, [], _++_}
 use lib.Dec.{eqb}
 use lib.ListN.{replicate}
 use Rattle.table.specs.OnBytes.{Done}
-use Rattle.demands.specs.Calls.{Call, opens, reseeds, draws, freshDraws, closes, inquires}
-use Rattle.demands.specs.InBytes.{inBytes}
+use Rattle.table.specs.Calls.{Call, opens, reseeds, draws, freshDraws, closes, inquires}
+use Rattle.table.specs.OnBytes.{inBytes}
 use Rattle.book.specs.Lines.{line, badLine}
 use Rattle.book.specs.Records as records
 use Rattle.book.specs.Records.{Meaning, meaningOf, kindOf}

@@ -6,12 +6,12 @@ use Prim.Native.Nat.{ℕ, _/_, _^_, _≤_}
 use borrow.Author.Tests.{ltb-false, eqb-true, eqb-false, not-false}
 use lib.Dec.{eqb, ltb}
 use Rattle.table.specs.Reasons.{outside, rounded}
-use Rattle.table.specs.Opening.{openReasons}
-use Rattle.table.specs.Reseeding.{reseedReasons}
-use Rattle.table.specs.Drawing.{drawReasons}
-use Rattle.table.specs.FreshDrawing.{freshDrawReasons}
-use Rattle.table.specs.Closing.{closeReasons}
-use Rattle.table.specs.Inquiring.{inquireReasons}
+use Rattle.table.specs.Calls.{openReasons}
+use Rattle.table.specs.Calls.{reseedReasons}
+use Rattle.table.specs.Calls.{drawReasons}
+use Rattle.table.specs.Calls.{freshDrawReasons}
+use Rattle.table.specs.Calls.{closeReasons}
+use Rattle.table.specs.Calls.{inquireReasons}
 use Rattle.table.proofs.FirstReason.{NoneHolds}
 
 one-or-two : (m : ℕ) → (not (eqb m 1) && not (eqb m 2)) ≡ false → (m ≡ 1) ⊎ (m ≡ 2)

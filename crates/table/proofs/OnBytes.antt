@@ -1,8 +1,9 @@
--- How a call on bytes comes out, by what it found: bytes that are no sound table, a refusal, or none. Assumes nothing.
+-- How a call on bytes comes out, by what it found: bytes that are no sound table, a reason, or none. Assumes nothing.
 use mathlib.Core.Path.{_≡_, refl, sym, ap, ap₂, _∙_}
 use mathlib.Core.Bool.{Bool, true, false, not, _&&_, cond}
-use mathlib.Core.List.{List, []}
+use mathlib.Core.List.{List}
 use Prim.Native.Nat.{ℕ}
+use native.Mathlib.Omega.{arith}
 use borrow.Author.Tests.{eqb-true, eq-eqb, not-true, not-false}
 use lib.Dec.{eqb}
 use lib.ListN.{length, getD}
@@ -10,14 +11,15 @@ use mir.Val.{Fits}
 use mir.Syntax.{w8}
 use Rattle.standard.proofs.Strings.{Bytes}
 use Rattle.slots.specs.Sound.{sound}
-use Rattle.slots.specs.Layout.{Table}
-use Rattle.slots.proofs.Flags.{both}
-use Rattle.table.specs.Answers.{Reply, refused, refusedDraw}
-use Rattle.table.specs.Answers.{Answer}
 use Rattle.slots.specs.Bytes.{tableOf, soundBytes}
-use Rattle.table.specs.OnBytes.{refusal, done, onBytes, silent}
-use Rattle.table.specs.declared.answers.Told.{Told}
+use Rattle.slots.proofs.Flags.{both}
 use Rattle.slots.proofs.TableBytes.{bytes-tableOf}
+use Rattle.table.specs.Reasons.{firstOf}
+use Rattle.table.specs.Answers.{Reply}
+use Rattle.table.specs.Calls.{Call, lent, reasonsOf, refusal, service, reply}
+use Rattle.table.specs.OnBytes.{toldRefused, done, inBytes}
+use Rattle.table.specs.declared.answers.Told.{Told}
+use Rattle.table.proofs.Exits.{refused-call, served-call, first-unsound}
 
 -- what the scan told
 pub record Whole (s : List ℕ) : Type 0 where
@@ -33,48 +35,41 @@ whole {s} {is} said tested =
 pub bytes-known : {s : List ℕ} → ((i : ℕ) → Fits w8 (getD s i 0)) → Bytes s
 bytes-known known = record { at = λ i. known i .fits }
 
-module _ (call : Table → Reply) (s out : List ℕ) where
-  pub served-on : length s ≡ 2148 → {r : Reply} → r ≡ call (tableOf s) → done r ≡ onBytes call s out
-  unfolding onBytes
-  served-on sized given =
+one-some : _≡_ {A = ℕ} 1 0 → ⊥
+one-some e = omega arith
+
+module _ (c : Call) (s : List ℕ) where
+  pub replied-on : length s ≡ 2148 → {r : Reply} → r ≡ reply (tableOf s) c → done r ≡ inBytes c s
+  unfolding inBytes
+  replied-on sized given =
       ap done given ∙
-      ap (λ b. cond b (done (call (tableOf s))) (record { told = refusal 1; table = s; output = out })) (sym (eq-eqb (length s) 2148 sized))
+      ap (λ b. cond b (done (reply (tableOf s) c)) (record { told = toldRefused 1; table = s; output = lent c }))
+      (sym (eq-eqb (length s) 2148 sized))
+
+  pub served-on : length s ≡ 2148 → {n : ℕ} → n ≡ firstOf (reasonsOf (tableOf s) c) → n ≡ 0 → {r : Reply} → r ≡ service (tableOf s) c
+      → done r ≡ inBytes c s
+  served-on sized first none given = replied-on sized (given ∙ served-call (tableOf s) c first none)
 
   module _ (b : Bytes s) where
-    pub refused-on : {n : ℕ} {r : Told} → r ≡ refusal n → length s ≡ 2148 → refusedDraw (tableOf s) out n ≡ call (tableOf s)
-        → record { told = r; table = s; output = out } ≡ onBytes call s out
-    refused-on told sized given =
-        ap₂ (λ r t. record { told = r; table = t; output = out }) told (sym (bytes-tableOf s b sized)) ∙ served-on sized given
+    pub refused-on : {n : ℕ} {r : Told} → r ≡ toldRefused n → length s ≡ 2148 → n ≡ firstOf (reasonsOf (tableOf s) c) → (n ≡ 0 → ⊥)
+        → record { told = r; table = s; output = lent c } ≡ inBytes c s
+    refused-on told sized first some =
+        ap₂ (λ r t. record { told = r; table = t; output = lent c }) told (sym (bytes-tableOf s b sized)) ∙
+        replied-on sized (refused-call (tableOf s) c first some)
 
-    pub unsound-on : {is : Bool} {r : Told} → r ≡ refusal 1 → is ≡ soundBytes s → not is ≡ true
-        → (sound (tableOf s) ≡ false → refusedDraw (tableOf s) out 1 ≡ call (tableOf s))
-        → record { told = r; table = s; output = out } ≡ onBytes call s out
-    unfolding onBytes
-    unsound-on {is} {r} told said tested given = go (eqb (length s) 2148) refl
+    pub unsound-on : {is : Bool} {r : Told} → r ≡ toldRefused 1 → is ≡ soundBytes s → not is ≡ true
+        → record { told = r; table = s; output = lent c } ≡ inBytes c s
+    unfolding inBytes
+    unsound-on {is} {r} told said tested = go (eqb (length s) 2148) refl
       where
-        go : (long : Bool) → eqb (length s) 2148 ≡ long → record { told = r; table = s; output = out } ≡ onBytes call s out
+        go : (long : Bool) → eqb (length s) 2148 ≡ long → record { told = r; table = s; output = lent c } ≡ inBytes c s
         go true long =
             let broken : sound (tableOf s) ≡ false =
             ap (λ b. b && sound (tableOf s)) (sym long) ∙ sym said ∙ not-true is tested in
-            refused-on told (eqb-true (length s) 2148 long) (given broken)
+            refused-on told (eqb-true (length s) 2148 long) (first-unsound (tableOf s) c broken) one-some
         go false long =
-            ap (λ r. record { told = r; table = s; output = out }) told ∙
-            ap (λ b. cond b (done (call (tableOf s))) (record { told = refusal 1; table = s; output = out })) (sym long)
+            ap (λ r. record { told = r; table = s; output = lent c }) told ∙
+            ap (λ b. cond b (done (reply (tableOf s) c)) (record { told = toldRefused 1; table = s; output = lent c })) (sym long)
 
--- the same of a call that lends no output
-module _ (call : Table → Answer) (s : List ℕ) where
-  pub served-silent : length s ≡ 2148 → {a : Answer} → a ≡ call (tableOf s)
-      → done (record { answer = a; output = [] }) ≡ onBytes (silent call) s []
-  served-silent sized given = served-on (silent call) s [] sized (ap (λ a. record { answer = a; output = [] }) given)
-
-  module _ (b : Bytes s) where
-    pub refused-silent : {n : ℕ} {r : Told} → r ≡ refusal n → length s ≡ 2148 → refused (tableOf s) n ≡ call (tableOf s)
-        → record { told = r; table = s; output = [] } ≡ onBytes (silent call) s []
-    refused-silent told sized given =
-        refused-on (silent call) s [] b told sized (ap (λ a. record { answer = a; output = [] }) given)
-
-    pub unsound-silent : {is : Bool} {r : Told} → r ≡ refusal 1 → is ≡ soundBytes s → not is ≡ true
-        → (sound (tableOf s) ≡ false → refused (tableOf s) 1 ≡ call (tableOf s))
-        → record { told = r; table = s; output = [] } ≡ onBytes (silent call) s []
-    unsound-silent told said tested given =
-        unsound-on (silent call) s [] b told said tested (λ broken. ap (λ a. record { answer = a; output = [] }) (given broken))
+pub two-some : _≡_ {A = ℕ} 2 0 → ⊥
+two-some e = omega arith

@@ -25,14 +25,10 @@ refused t number = record { number = number; table = t; blocks = 0; value = 0 }
 abbrev pub accepted : Table → (blocks value : ℕ) → Answer
 accepted t blocks value = record { number = 0; table = t; blocks = blocks; value = value }
 
--- the answer to a draw, and what the lent output then holds
+-- the answer to a call, and what the lent output then holds; a call that lends none has an empty one
 pub record Reply : Type 0 where
   pub answer : Answer
   pub output : List ℕ
-
--- refused, the output holds its old bytes
-abbrev pub refusedDraw : Table → (out : List ℕ) (number : ℕ) → Reply
-refusedDraw t out number = record { answer = refused t number; output = out }
 
 -- the first reason that holds, or what is served where none does
 unfoldable pub decided : {A : Type 0} → Reasons → (refusal : ℕ → A) (served : A) → A

@@ -10,7 +10,7 @@ ghost use lib.ListN.{length};
 ghost use Rattle.slots.specs.Layout.{slotAt};
 ghost use Rattle.table.specs.Answers.{generatorOf, withGenerator, stepped, newSlot};
 ghost use Rattle.slots.specs.Bytes.{tableOf};
-ghost use Rattle.table.specs.OnBytes.{refusal, acceptance, done};
+ghost use Rattle.table.specs.OnBytes.{toldRefused, toldServed, done};
 
 pub struct Told {
     pub number: u64,
@@ -19,7 +19,7 @@ pub struct Told {
 }
 
 pub fn refused(number: u64) -> Told
-    ensures { λ r. ⌜ r ≡ refusal number ⌝ }
+    ensures { λ r. ⌜ r ≡ toldRefused number ⌝ }
 {
     Told {
         number,
@@ -29,7 +29,7 @@ pub fn refused(number: u64) -> Told
 }
 
 pub fn accepted(blocks: u64, value: u64) -> Told
-    ensures { λ r. ⌜ r ≡ acceptance blocks value ⌝ }
+    ensures { λ r. ⌜ r ≡ toldServed blocks value ⌝ }
 {
     Told {
         number: 0,

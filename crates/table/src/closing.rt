@@ -8,12 +8,12 @@ use slots::handle::Found;
 use slots::slot;
 ghost use mathlib.Core.Path.{_≡_};
 ghost use mathlib.Core.List.{[]};
-ghost use Rattle.table.specs.Closing.{closeOf};
-ghost use Rattle.table.specs.OnBytes.{onBytes, silent};
+ghost use Rattle.table.specs.Calls.{closes};
+ghost use Rattle.table.specs.OnBytes.{inBytes};
 
 pub fn close(table: &mut [u8], handle: u64) -> Told
     ensures { λ r. ⌜ record { told = r; table = now (table .exit); output = [] }
-        ≡ onBytes (silent (λ t. closeOf t handle)) (now (table .entry)) [] ⌝ }
+        ≡ inBytes (closes handle) (now (table .entry)) ⌝ }
 {
     if !sound::is_sound(table) {
         return answers::refused(1);

@@ -11,8 +11,8 @@ use crate::answers::generator_of;
 ghost use mathlib.Core.Path.{_≡_};
 ghost use Rattle.table.specs.Reasons.{firstOf};
 ghost use mathlib.Core.Bool.{true};
-ghost use Rattle.table.specs.Drawing.{drawReasons, drawOf};
-ghost use Rattle.table.specs.OnBytes.{onBytes};
+ghost use Rattle.table.specs.Calls.{drawReasons, draws};
+ghost use Rattle.table.specs.OnBytes.{inBytes};
 
 // The first reason, 0 where there is none, once the table is sound and the handle names a generator of strength `own`.
 pub fn reason(
@@ -33,7 +33,7 @@ pub fn reason(
 
 pub fn draw(table: &mut [u8], handle: u64, strength: u64, out: &mut [u8], additional: &[u8]) -> Told
     ensures { λ r. ⌜ record { told = r; table = now (table .exit); output = now (out .exit) }
-        ≡ onBytes (λ t. drawOf t handle strength (now (out .entry)) (now (additional .entry))) (now (table .entry)) (now (out .entry)) ⌝ }
+        ≡ inBytes (draws handle strength (now (out .entry)) (now (additional .entry))) (now (table .entry)) ⌝ }
 {
     if !sound::is_sound(table) {
         return answers::refused(1);

@@ -11,8 +11,8 @@ use crate::answers::generator_of;
 ghost use mathlib.Core.Path.{_≡_};
 ghost use Rattle.table.specs.Reasons.{firstOf};
 ghost use mathlib.Core.Bool.{true};
-ghost use Rattle.table.specs.FreshDrawing.{freshDrawReasons, freshDrawOf};
-ghost use Rattle.table.specs.OnBytes.{onBytes};
+ghost use Rattle.table.specs.Calls.{freshDrawReasons, freshDraws};
+ghost use Rattle.table.specs.OnBytes.{inBytes};
 
 // The first reason, 0 where there is none, once the table is sound and the handle names a generator of strength `own`.
 pub fn reason(
@@ -42,8 +42,7 @@ pub fn fresh_draw<'a>(
     additional: &'a [u8],
 ) -> Told
     ensures { λ r. ⌜ record { told = r; table = now (table .exit); output = now (out .exit) }
-        ≡ onBytes (λ t. freshDrawOf t handle strength (now (out .entry)) (now (entropy .entry)) (now (additional .entry)))
-        (now (table .entry)) (now (out .entry)) ⌝ }
+        ≡ inBytes (freshDraws handle strength (now (out .entry)) (now (entropy .entry)) (now (additional .entry))) (now (table .entry)) ⌝ }
 {
     if !sound::is_sound(table) {
         return answers::refused(1);

@@ -7,12 +7,12 @@ use slots::sound;
 use slots::handle::Found;
 ghost use mathlib.Core.Path.{_≡_};
 ghost use mathlib.Core.List.{[]};
-ghost use Rattle.table.specs.Inquiring.{inquireOf};
-ghost use Rattle.table.specs.OnBytes.{onBytes, silent};
+ghost use Rattle.table.specs.Calls.{inquires};
+ghost use Rattle.table.specs.OnBytes.{inBytes};
 
 pub fn inquire(table: &[u8], handle: u64) -> Told
     ensures { λ r. ⌜ record { told = r; table = now (table .entry); output = [] }
-        ≡ onBytes (silent (λ t. inquireOf t handle)) (now (table .entry)) [] ⌝ }
+        ≡ inBytes (inquires handle) (now (table .entry)) ⌝ }
 {
     if !sound::is_sound(table) {
         return answers::refused(1);

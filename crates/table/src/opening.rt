@@ -11,8 +11,8 @@ use crate::reasons;
 ghost use mathlib.Core.Path.{_≡_};
 ghost use Rattle.table.specs.Reasons.{firstOf};
 ghost use mathlib.Core.List.{[]};
-ghost use Rattle.table.specs.Opening.{openReasons, openOf};
-ghost use Rattle.table.specs.OnBytes.{onBytes, silent};
+ghost use Rattle.table.specs.Calls.{openReasons, opens};
+ghost use Rattle.table.specs.OnBytes.{inBytes};
 
 // The first reason, 0 where there is none.
 pub fn reason(
@@ -51,8 +51,7 @@ pub fn open<'a>(
     personalization: &'a [u8],
 ) -> Told
     ensures { λ r. ⌜ record { told = r; table = now (table .exit); output = [] }
-        ≡ onBytes (silent (λ t. openOf t mechanism strength interval fresh
-        (now (entropy .entry)) (now (nonce .entry)) (now (personalization .entry)))) (now (table .entry)) [] ⌝ }
+        ≡ inBytes (opens mechanism strength interval fresh (now (entropy .entry)) (now (nonce .entry)) (now (personalization .entry))) (now (table .entry)) ⌝ }
 {
     if !sound::is_sound(table) {
         return answers::refused(1);

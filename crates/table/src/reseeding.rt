@@ -12,8 +12,8 @@ ghost use mathlib.Core.Path.{_≡_};
 ghost use Rattle.table.specs.Reasons.{firstOf};
 ghost use mathlib.Core.Bool.{true};
 ghost use mathlib.Core.List.{[]};
-ghost use Rattle.table.specs.Reseeding.{reseedReasons, reseedOf};
-ghost use Rattle.table.specs.OnBytes.{onBytes, silent};
+ghost use Rattle.table.specs.Calls.{reseedReasons, reseeds};
+ghost use Rattle.table.specs.OnBytes.{inBytes};
 
 // The first reason, 0 where there is none, once the table is sound and the handle names a generator of strength `own`.
 pub fn reason(own: u16, entropy: usize, additional: usize) -> u64
@@ -26,7 +26,7 @@ pub fn reason(own: u16, entropy: usize, additional: usize) -> u64
 
 pub fn reseed<'a>(table: &mut [u8], handle: u64, entropy: &'a [u8], additional: &'a [u8]) -> Told
     ensures { λ r. ⌜ record { told = r; table = now (table .exit); output = [] }
-        ≡ onBytes (silent (λ t. reseedOf t handle (now (entropy .entry)) (now (additional .entry)))) (now (table .entry)) [] ⌝ }
+        ≡ inBytes (reseeds handle (now (entropy .entry)) (now (additional .entry))) (now (table .entry)) ⌝ }
 {
     if !sound::is_sound(table) {
         return answers::refused(1);

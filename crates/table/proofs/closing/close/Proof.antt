@@ -4,9 +4,10 @@ use mathlib.Core.List.{[]}
 use borrow.Author.Needs.{needs}
 use Rattle.slots.specs.Layout.{withSlot}
 use Rattle.table.proofs.Outcomes.{Named, names-slot, unnamed, below}
-use Rattle.table.proofs.Exits.{close-unsound, close-unnamed, close-served}
+use Rattle.table.specs.Calls.{closes, close}
+use Rattle.table.proofs.Exits.{first-unnamed, first-close, close-served}
 use Rattle.slots.specs.Bytes.{tableBytes, tableOf}
-use Rattle.table.proofs.OnBytes.{Whole, whole, bytes-known, served-silent, refused-silent, unsound-silent}
+use Rattle.table.proofs.OnBytes.{Whole, whole, bytes-known, served-on, refused-on, unsound-on, two-some}
 use Rattle.table.proofs.closing.close.Statement.{statement}
 use Rattle.table.proofs.closing.close.Tie as tie
 
@@ -24,9 +25,8 @@ returns : tie.Need-returns
 returns c =
     let known = c .before .before .before .before in
     let a = known .before .args in
-    unsound-silent _ _ (bytes-known (known .slice-known .given)) (c .refused .ensures) (c .before .before .is-sound .ensures)
+    unsound-on _ _ (bytes-known (known .slice-known .given)) (c .refused .ensures) (c .before .before .is-sound .ensures)
     (c .before .if1 .taken)
-    (close-unsound (tableOf (a .table .now)) (a .handle))
 
 look-up-requires : tie.Need-look-up-requires
 look-up-requires c κs = scanned (c .before) .sized
@@ -37,9 +37,10 @@ returns-2 c =
     let a = known .before .args in
     let t = tableOf (a .table .now) in
     let w = scanned (c .before .before .before .before .before) in
-    refused-silent _ _ (bytes-known (known .slice-known .given)) (c .refused2 .ensures) (w .sized)
-    (close-unnamed t (a .handle) (sym (w .sound))
+    refused-on _ _ (bytes-known (known .slice-known .given)) (c .refused2 .ensures) (w .sized)
+    (first-unnamed t (closes (a .handle)) (a .handle) close (sym (w .sound))
     (unnamed t (a .handle) (c .before .before .before .look-up .ensures) (c .before .enum-told .given .1)))
+    two-some
 
 put-slot-requires : tie.Need-put-slot-requires
 put-slot-requires c κs = (scanned (c .before .before .before .before .before .before .before) .sized, below (names-it (c .before .before)))
@@ -53,7 +54,8 @@ returns-3 c =
     ap₂ (λ r e. record { told = r; table = e; output = [] }) (c .accepted .ensures)
     (c .before .before .before .put-slot .ensures ∙ ap (λ x. tableBytes (withSlot t (told .before .i .given .0 .0) x))
     (made .free-slot .ensures)) ∙
-    served-silent _ _ (scanned (told .before .before .before .before .before) .sized) (close-served t (a .handle) (names-it told))
+    served-on _ _ (scanned (told .before .before .before .before .before) .sized) (first-close (names-it told)) refl
+    (close-served (names-it told))
 
 pub close-spec : {M : Type 1} → statement M
 close-spec =

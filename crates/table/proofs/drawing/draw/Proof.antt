@@ -2,10 +2,11 @@
 use mathlib.Core.Path.{refl, sym, ap, _∙_}
 use borrow.Author.Needs.{needs}
 use Rattle.table.proofs.Outcomes.{Named, names-slot, unnamed, below, counter-fits}
-use Rattle.table.proofs.Exits.{draw-unsound, draw-unnamed, draw-refused, draw-served, draw-allowed}
+use Rattle.table.specs.Calls.{draws, draw}
+use Rattle.table.proofs.Exits.{first-unnamed, first-draw, draw-served, draw-allowed}
 use Rattle.slots.specs.Bytes.{tableOf}
 use Rattle.table.specs.OnBytes.{Done}
-use Rattle.table.proofs.OnBytes.{Whole, whole, bytes-known, served-on, refused-on, unsound-on}
+use Rattle.table.proofs.OnBytes.{Whole, whole, bytes-known, served-on, refused-on, unsound-on, two-some}
 use Rattle.table.proofs.drawing.draw.Statement.{statement}
 use Rattle.table.proofs.drawing.draw.Tie as tie
 
@@ -23,9 +24,8 @@ returns : tie.Need-returns
 returns c =
     let known = c .before .before .before .before .before .before in
     let a = known .before .args in
-    unsound-on _ _ _ (bytes-known (known .slice-known .given)) (c .refused .ensures) (c .before .before .is-sound .ensures)
+    unsound-on _ _ (bytes-known (known .slice-known .given)) (c .refused .ensures) (c .before .before .is-sound .ensures)
     (c .before .if1 .taken)
-    (draw-unsound (tableOf (a .table .now)) (a .handle) (a .strength) (a .out .now) (a .additional .now))
 
 look-up-requires : tie.Need-look-up-requires
 look-up-requires c κs = scanned (c .before) .sized
@@ -36,9 +36,10 @@ returns-2 c =
     let a = known .before .args in
     let t = tableOf (a .table .now) in
     let w = scanned (c .before .before .before .before .before) in
-    refused-on _ _ _ (bytes-known (known .slice-known .given)) (c .refused2 .ensures) (w .sized)
-    (draw-unnamed t (a .handle) (a .strength) (a .out .now) (a .additional .now) (sym (w .sound))
+    refused-on _ _ (bytes-known (known .slice-known .given)) (c .refused2 .ensures) (w .sized)
+    (first-unnamed t (draws (a .handle) (a .strength) (a .out .now) (a .additional .now)) (a .handle) draw (sym (w .sound))
     (unnamed t (a .handle) (c .before .before .before .look-up .ensures) (c .before .enum-told .given .1)))
+    two-some
 
 slot-at-requires : tie.Need-slot-at-requires
 slot-at-requires c κs = (scanned (c .before .before .before .before .before .before) .sized, below (names-it (c .before)))
@@ -48,10 +49,10 @@ returns-3 c =
     let told = c .before .before .before .before .before in
     let known = told .before .before .before .before .before .before .before .before .before .before in
     let a = known .before .args in
-    refused-on _ _ _ (bytes-known (known .slice-known .given)) (c .refused3 .ensures)
+    refused-on _ _ (bytes-known (known .slice-known .given)) (c .refused3 .ensures)
     (scanned (told .before .before .before .before .before) .sized)
-    (draw-refused (tableOf (a .table .now)) (a .handle) (a .strength) (a .out .now) (a .additional .now)
-    (names-it told) (c .before .before .before .slot-at .ensures) (c .before .before .reason .ensures) (c .before .if2 .taken))
+    (first-draw (names-it told) (c .before .before .before .slot-at .ensures) (a .strength) (a .out .now) (a .additional .now) (c .before .before .reason .ensures))
+    (c .before .if2 .taken)
 
 drawn-requires : tie.Need-drawn-requires
 drawn-requires c κs =
@@ -59,8 +60,7 @@ drawn-requires c κs =
     let told = made .before .before .before .before .before in
     let a = told .before .before .before .before .before .before .before .before .before .before .before .args in
     let may =
-    draw-allowed (tableOf (a .table .now)) (a .handle) (a .strength) (a .out .now) (a .additional .now)
-    (names-it told) (made .before .before .before .slot-at .ensures) (made .before .before .reason .ensures) (made .before .if2 .left) in
+    draw-allowed (names-it told) (made .before .before .before .slot-at .ensures) (a .strength) (a .out .now) (a .additional .now) (made .before .before .reason .ensures) (made .before .if2 .left) in
     let small = counter-fits (names-it told) (made .before .before .before .slot-at .ensures) (made .generator-of .ensures) in
     (may .request-most, may .additional-most, small)
 
@@ -80,10 +80,9 @@ returns-4 c =
     let a = told .before .before .before .before .before .before .before .before .before .before .before .args in
     ap (λ (d : Done). record { told = d .told; table = d .table; output = served .drawn .last .1 .1 .0 })
     (c .before .before .stepped .ensures) ∙
-    served-on _ _ _ (scanned (told .before .before .before .before .before) .sized)
-    (draw-served (tableOf (a .table .now)) (a .handle) (a .strength) (a .out .now) (a .additional .now)
-    (names-it told) (made .before .before .before .slot-at .ensures) (made .before .before .reason .ensures) (made .before .if2 .left)
-    (rw (made .generator-of .ensures) at (served .drawn .ensures .0)))
+    served-on _ _ (scanned (told .before .before .before .before .before) .sized)
+    (first-draw (names-it told) (made .before .before .before .slot-at .ensures) (a .strength) (a .out .now) (a .additional .now) (made .before .before .reason .ensures)) (made .before .if2 .left)
+    (draw-served (names-it told) (made .before .before .before .slot-at .ensures) (a .strength) (a .out .now) (a .additional .now) (rw (made .generator-of .ensures) at (served .drawn .ensures .0)))
 
 pub draw-spec : {M : Type 1} → statement M
 draw-spec =

@@ -1,6 +1,6 @@
 -- In turn. Assumes nothing.
 use mathlib.Core.Path.{refl}
-use Rattle.table.specs.Drawing.{drawReasons}
+use Rattle.table.specs.Calls.{drawReasons}
 use Rattle.table.proofs.FirstReason.{first-in-turn, turn, skip, last}
 use borrow.Author.Needs.{needs}
 use Rattle.table.proofs.drawing.reason.Statement.{statement}

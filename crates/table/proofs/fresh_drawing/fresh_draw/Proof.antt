@@ -2,10 +2,11 @@
 use mathlib.Core.Path.{refl, sym, ap, _∙_}
 use borrow.Author.Needs.{needs}
 use Rattle.table.proofs.Outcomes.{Named, names-slot, unnamed, below}
-use Rattle.table.proofs.Exits.{fresh-draw-unsound, fresh-draw-unnamed, fresh-draw-refused, fresh-draw-served, fresh-draw-allowed}
+use Rattle.table.specs.Calls.{freshDraws, fresh-draw}
+use Rattle.table.proofs.Exits.{first-unnamed, first-fresh-draw, fresh-draw-served, fresh-draw-allowed}
 use Rattle.slots.specs.Bytes.{tableOf}
 use Rattle.table.specs.OnBytes.{Done}
-use Rattle.table.proofs.OnBytes.{Whole, whole, bytes-known, served-on, refused-on, unsound-on}
+use Rattle.table.proofs.OnBytes.{Whole, whole, bytes-known, served-on, refused-on, unsound-on, two-some}
 use Rattle.table.proofs.fresh_drawing.fresh_draw.Statement.{statement}
 use Rattle.table.proofs.fresh_drawing.fresh_draw.Tie as tie
 
@@ -23,9 +24,8 @@ returns : tie.Need-returns
 returns c =
     let known = c .before .before .before .before .before .before .before in
     let a = known .before .args in
-    unsound-on _ _ _ (bytes-known (known .slice-known .given)) (c .refused .ensures) (c .before .before .is-sound .ensures)
+    unsound-on _ _ (bytes-known (known .slice-known .given)) (c .refused .ensures) (c .before .before .is-sound .ensures)
     (c .before .if1 .taken)
-    (fresh-draw-unsound (tableOf (a .table .now)) (a .handle) (a .strength) (a .out .now) (a .entropy .now) (a .additional .now))
 
 look-up-requires : tie.Need-look-up-requires
 look-up-requires c κs = scanned (c .before) .sized
@@ -36,9 +36,10 @@ returns-2 c =
     let a = known .before .args in
     let t = tableOf (a .table .now) in
     let w = scanned (c .before .before .before .before .before) in
-    refused-on _ _ _ (bytes-known (known .slice-known .given)) (c .refused2 .ensures) (w .sized)
-    (fresh-draw-unnamed t (a .handle) (a .strength) (a .out .now) (a .entropy .now) (a .additional .now) (sym (w .sound))
+    refused-on _ _ (bytes-known (known .slice-known .given)) (c .refused2 .ensures) (w .sized)
+    (first-unnamed t (freshDraws (a .handle) (a .strength) (a .out .now) (a .entropy .now) (a .additional .now)) (a .handle) fresh-draw (sym (w .sound))
     (unnamed t (a .handle) (c .before .before .before .look-up .ensures) (c .before .enum-told .given .1)))
+    two-some
 
 slot-at-requires : tie.Need-slot-at-requires
 slot-at-requires c κs = (scanned (c .before .before .before .before .before .before) .sized, below (names-it (c .before)))
@@ -48,10 +49,10 @@ returns-3 c =
     let told = c .before .before .before .before .before in
     let known = told .before .before .before .before .before .before .before .before .before .before .before in
     let a = known .before .args in
-    refused-on _ _ _ (bytes-known (known .slice-known .given)) (c .refused3 .ensures)
+    refused-on _ _ (bytes-known (known .slice-known .given)) (c .refused3 .ensures)
     (scanned (told .before .before .before .before .before) .sized)
-    (fresh-draw-refused (tableOf (a .table .now)) (a .handle) (a .strength) (a .out .now) (a .entropy .now) (a .additional .now)
-    (names-it told) (c .before .before .before .slot-at .ensures) (c .before .before .reason .ensures) (c .before .if2 .taken))
+    (first-fresh-draw (names-it told) (c .before .before .before .slot-at .ensures) (a .strength) (a .out .now) (a .entropy .now) (a .additional .now) (c .before .before .reason .ensures))
+    (c .before .if2 .taken)
 
 fresh-drawn-requires : tie.Need-fresh-drawn-requires
 fresh-drawn-requires c κs =
@@ -59,8 +60,7 @@ fresh-drawn-requires c κs =
     let told = made .before .before .before .before .before in
     let a = told .before .before .before .before .before .before .before .before .before .before .before .before .args in
     let may =
-    fresh-draw-allowed (tableOf (a .table .now)) (a .handle) (a .strength) (a .out .now) (a .entropy .now) (a .additional .now)
-    (names-it told) (made .before .before .before .slot-at .ensures) (made .before .before .reason .ensures) (made .before .if2 .left) in
+    fresh-draw-allowed (names-it told) (made .before .before .before .slot-at .ensures) (a .strength) (a .out .now) (a .entropy .now) (a .additional .now) (made .before .before .reason .ensures) (made .before .if2 .left) in
     (may .request-most, may .entropy-most, may .additional-most)
 
 stepped-requires : tie.Need-stepped-requires
@@ -79,10 +79,9 @@ returns-4 c =
     let a = told .before .before .before .before .before .before .before .before .before .before .before .before .args in
     ap (λ (d : Done). record { told = d .told; table = d .table; output = served .fresh-drawn .last .1 .1 .0 })
     (c .before .before .stepped .ensures) ∙
-    served-on _ _ _ (scanned (told .before .before .before .before .before) .sized)
-    (fresh-draw-served (tableOf (a .table .now)) (a .handle) (a .strength) (a .out .now) (a .entropy .now) (a .additional .now)
-    (names-it told) (made .before .before .before .slot-at .ensures) (made .before .before .reason .ensures) (made .before .if2 .left)
-    (rw (made .generator-of .ensures) at (served .fresh-drawn .ensures)))
+    served-on _ _ (scanned (told .before .before .before .before .before) .sized)
+    (first-fresh-draw (names-it told) (made .before .before .before .slot-at .ensures) (a .strength) (a .out .now) (a .entropy .now) (a .additional .now) (made .before .before .reason .ensures)) (made .before .if2 .left)
+    (fresh-draw-served (names-it told) (made .before .before .before .slot-at .ensures) (a .strength) (a .out .now) (a .entropy .now) (a .additional .now) (rw (made .generator-of .ensures) at (served .fresh-drawn .ensures)))
 
 pub fresh-draw-spec : {M : Type 1} → statement M
 fresh-draw-spec =

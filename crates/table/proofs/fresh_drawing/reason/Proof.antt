@@ -1,6 +1,6 @@
 -- In turn. Assumes nothing.
 use mathlib.Core.Path.{refl}
-use Rattle.table.specs.FreshDrawing.{freshDrawReasons}
+use Rattle.table.specs.Calls.{freshDrawReasons}
 use Rattle.table.proofs.FirstReason.{first-in-turn, turn, skip, last}
 use borrow.Author.Needs.{needs}
 use Rattle.table.proofs.fresh_drawing.reason.Statement.{statement}

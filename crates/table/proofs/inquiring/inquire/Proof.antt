@@ -5,10 +5,11 @@ use mathlib.Core.List.{[]}
 use native.Mathlib.Omega.{arith}
 use borrow.Author.Needs.{needs}
 use Rattle.table.proofs.Outcomes.{Named, names-slot, unnamed, below, used-here}
-use Rattle.table.proofs.Exits.{inquire-unsound, inquire-unnamed, inquire-served}
+use Rattle.table.specs.Calls.{inquires, inquire}
+use Rattle.table.proofs.Exits.{first-unnamed, first-inquire, inquire-served}
 use Rattle.slots.specs.Bytes.{tableOf}
 use Rattle.slots.proofs.TableBytes.{bytes-tableOf}
-use Rattle.table.proofs.OnBytes.{Whole, whole, bytes-known, served-silent, refused-silent, unsound-silent}
+use Rattle.table.proofs.OnBytes.{Whole, whole, bytes-known, served-on, refused-on, unsound-on, two-some}
 use Rattle.table.proofs.inquiring.inquire.Statement.{statement}
 use Rattle.table.proofs.inquiring.inquire.Tie as tie
 
@@ -26,8 +27,8 @@ returns : tie.Need-returns
 returns c =
     let known = c .before .before .before in
     let a = known .before .args in
-    unsound-silent _ _ (bytes-known (known .shared-slice-known .given)) (c .refused .ensures) (c .before .before .is-sound .ensures)
-    (c .before .if1 .taken) (inquire-unsound (tableOf (a .table .now)) (a .handle))
+    unsound-on _ _ (bytes-known (known .shared-slice-known .given)) (c .refused .ensures) (c .before .before .is-sound .ensures)
+    (c .before .if1 .taken)
 
 look-up-requires : tie.Need-look-up-requires
 look-up-requires c κs = scanned c .sized
@@ -38,9 +39,10 @@ returns-2 c =
     let a = known .before .args in
     let t = tableOf (a .table .now) in
     let w = scanned (c .before .before .before .before) in
-    refused-silent _ _ (bytes-known (known .shared-slice-known .given)) (c .refused2 .ensures) (w .sized)
-    (inquire-unnamed t (a .handle) (sym (w .sound))
+    refused-on _ _ (bytes-known (known .shared-slice-known .given)) (c .refused2 .ensures) (w .sized)
+    (first-unnamed t (inquires (a .handle)) (a .handle) inquire (sym (w .sound))
     (unnamed t (a .handle) (c .before .before .before .look-up .ensures) (c .before .enum-told .given .1)))
+    two-some
 
 slot-at-requires : tie.Need-slot-at-requires
 slot-at-requires c κs = (scanned (c .before .before .before .before) .sized, below (names-it c))
@@ -60,7 +62,8 @@ returns-3 c =
     let w = scanned (told .before .before .before .before) in
     ap₂ (λ r e. record { told = r; table = e; output = [] }) (c .accepted .ensures)
     (sym (bytes-tableOf s (bytes-known (known .shared-slice-known .given)) (w .sized))) ∙
-    served-silent _ _ (w .sized) (inquire-served (tableOf s) (a .handle) (names-it told) (c .before .before .before .slot-at .ensures))
+    served-on _ _ (w .sized) (first-inquire (names-it told)) refl
+    (inquire-served (names-it told) (c .before .before .before .slot-at .ensures))
 
 pub inquire-spec : {M : Type 1} → statement M
 inquire-spec =

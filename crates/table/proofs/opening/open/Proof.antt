@@ -9,12 +9,12 @@ use borrow.Author.Needs.{needs}
 use Rattle.slots.specs.Layout.{withSlot, withLastSerial}
 use Rattle.table.specs.Reasons.{firstOf}
 use Rattle.table.specs.Answers.{newSlot, installed}
-use Rattle.table.specs.Opening.{openReasons}
+use Rattle.table.specs.Calls.{openReasons}
 use Rattle.table.proofs.Allowed.{MayOpen}
-use Rattle.table.proofs.Exits.{Weighed, open-unsound, open-refused, open-served, open-allowed, open-slot}
+use Rattle.table.proofs.Exits.{Weighed, first-open, open-served, open-allowed, open-slot}
 use Rattle.slots.specs.Bytes.{tableBytes, tableOf}
-use Rattle.table.specs.OnBytes.{acceptance}
-use Rattle.table.proofs.OnBytes.{Whole, whole, bytes-known, served-silent, refused-silent, unsound-silent}
+use Rattle.table.specs.OnBytes.{toldServed}
+use Rattle.table.proofs.OnBytes.{Whole, whole, bytes-known, served-on, refused-on, unsound-on}
 use Rattle.table.proofs.opening.open.Statement.{statement}
 use Rattle.table.proofs.opening.open.Tie as tie
 
@@ -43,10 +43,8 @@ returns : tie.Need-returns
 returns c =
     let known = c .before .before .before .before .before .before .before in
     let a = known .before .args in
-    unsound-silent _ _ (bytes-known (known .slice-known .given)) (c .refused .ensures) (c .before .before .is-sound .ensures)
+    unsound-on _ _ (bytes-known (known .slice-known .given)) (c .refused .ensures) (c .before .before .is-sound .ensures)
     (c .before .if1 .taken)
-    (open-unsound (tableOf (a .table .now)) (a .mechanism) (a .strength) (a .interval) (a .fresh) (a .entropy .now) (a .nonce .now)
-    (a .personalization .now))
 
 lowest-free-requires : tie.Need-lowest-free-requires
 lowest-free-requires c κs = (scanned (c .before) .sized, search needs, search needs)
@@ -57,9 +55,9 @@ last-serial-requires c κs = scanned (c .before .before .before) .sized
 returns-2 : tie.Need-returns-2
 returns-2 c =
     let known = c .before .before .before .before .before .before .before .before .before .before .before .before .before in
-    refused-silent _ _ (bytes-known (known .slice-known .given)) (c .refused2 .ensures)
+    refused-on _ _ (bytes-known (known .slice-known .given)) (c .refused2 .ensures)
     (scanned (c .before .before .before .before .before .before .before) .sized)
-    (open-refused (weighed (c .before .before)) (c .before .if2 .taken) _)
+    (first-open (weighed (c .before .before)) (known .before .args .fresh)) (c .before .if2 .taken)
 
 cast-kind : tie.Need-cast-kind
 cast-kind c =
@@ -95,14 +93,15 @@ returns-3 c =
     let i = chosen .before .before .before .before .lowest-free .result in
     let serial = chosen .before .before .last-serial .result + 1 in
     ap₂ (λ r e. record { told = r; table = e; output = [] })
-    (c .accepted .ensures ∙ ap (acceptance (opened .opened .result .blocks)) (c .before .handle-of .ensures))
+    (c .accepted .ensures ∙ ap (toldServed (opened .opened .result .blocks)) (c .before .handle-of .ensures))
     (c .before .before .before .before .put-new-slot .ensures ∙
     ap (λ x. tableBytes (withLastSerial (withSlot t i x) serial))
     (new .new-slot .ensures ∙
     ap (λ k. newSlot (a .mechanism) k (a .interval) (a .fresh) serial (opened .opened .result .generator))
     (new .before .rounded .ensures))) ∙
-    served-silent _ _ (scanned (chosen .before .before .before .before .before .before) .sized)
-    (open-served (weighed (chosen .before)) (chosen .if2 .left) _ (opened .opened .ensures))
+    served-on _ _ (scanned (chosen .before .before .before .before .before .before) .sized)
+    (first-open (weighed (chosen .before)) (a .fresh)) (chosen .if2 .left)
+    (open-served (weighed (chosen .before)) (a .fresh) (opened .opened .ensures))
 
 pub open-spec : {M : Type 1} → statement M
 open-spec =

@@ -1,6 +1,6 @@
 -- In turn. Assumes nothing.
 use mathlib.Core.Path.{refl}
-use Rattle.table.specs.Opening.{openReasons}
+use Rattle.table.specs.Calls.{openReasons}
 use Rattle.table.proofs.FirstReason.{first-in-turn, turn, last}
 use borrow.Author.Needs.{needs}
 use Rattle.table.proofs.opening.reason.Statement.{statement}

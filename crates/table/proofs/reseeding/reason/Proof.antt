@@ -1,6 +1,6 @@
 -- In turn. Assumes nothing.
 use mathlib.Core.Path.{refl}
-use Rattle.table.specs.Reseeding.{reseedReasons}
+use Rattle.table.specs.Calls.{reseedReasons}
 use Rattle.table.proofs.FirstReason.{first-in-turn, turn, skip, last}
 use borrow.Author.Needs.{needs}
 use Rattle.table.proofs.reseeding.reason.Statement.{statement}

@@ -2,9 +2,10 @@
 use mathlib.Core.Path.{refl, sym, _∙_}
 use borrow.Author.Needs.{needs}
 use Rattle.table.proofs.Outcomes.{Named, names-slot, unnamed, below}
-use Rattle.table.proofs.Exits.{reseed-unsound, reseed-unnamed, reseed-refused, reseed-served, reseed-allowed}
+use Rattle.table.specs.Calls.{reseeds, reseed}
+use Rattle.table.proofs.Exits.{first-unnamed, first-reseed, reseed-served, reseed-allowed}
 use Rattle.slots.specs.Bytes.{tableOf}
-use Rattle.table.proofs.OnBytes.{Whole, whole, bytes-known, served-silent, refused-silent, unsound-silent}
+use Rattle.table.proofs.OnBytes.{Whole, whole, bytes-known, served-on, refused-on, unsound-on, two-some}
 use Rattle.table.proofs.reseeding.reseed.Statement.{statement}
 use Rattle.table.proofs.reseeding.reseed.Tie as tie
 
@@ -22,9 +23,8 @@ returns : tie.Need-returns
 returns c =
     let known = c .before .before .before .before .before .before in
     let a = known .before .args in
-    unsound-silent _ _ (bytes-known (known .slice-known .given)) (c .refused .ensures) (c .before .before .is-sound .ensures)
+    unsound-on _ _ (bytes-known (known .slice-known .given)) (c .refused .ensures) (c .before .before .is-sound .ensures)
     (c .before .if1 .taken)
-    (reseed-unsound (tableOf (a .table .now)) (a .handle) (a .entropy .now) (a .additional .now))
 
 look-up-requires : tie.Need-look-up-requires
 look-up-requires c κs = scanned (c .before) .sized
@@ -35,9 +35,10 @@ returns-2 c =
     let a = known .before .args in
     let t = tableOf (a .table .now) in
     let w = scanned (c .before .before .before .before .before) in
-    refused-silent _ _ (bytes-known (known .slice-known .given)) (c .refused2 .ensures) (w .sized)
-    (reseed-unnamed t (a .handle) (a .entropy .now) (a .additional .now) (sym (w .sound))
+    refused-on _ _ (bytes-known (known .slice-known .given)) (c .refused2 .ensures) (w .sized)
+    (first-unnamed t (reseeds (a .handle) (a .entropy .now) (a .additional .now)) (a .handle) reseed (sym (w .sound))
     (unnamed t (a .handle) (c .before .before .before .look-up .ensures) (c .before .enum-told .given .1)))
+    two-some
 
 slot-at-requires : tie.Need-slot-at-requires
 slot-at-requires c κs = (scanned (c .before .before .before .before .before .before) .sized, below (names-it (c .before)))
@@ -47,10 +48,10 @@ returns-3 c =
     let told = c .before .before .before .before .before in
     let known = told .before .before .before .before .before .before .before .before .before .before in
     let a = known .before .args in
-    refused-silent _ _ (bytes-known (known .slice-known .given)) (c .refused3 .ensures)
+    refused-on _ _ (bytes-known (known .slice-known .given)) (c .refused3 .ensures)
     (scanned (told .before .before .before .before .before) .sized)
-    (reseed-refused (tableOf (a .table .now)) (a .handle) (a .entropy .now) (a .additional .now)
-    (names-it told) (c .before .before .before .slot-at .ensures) (c .before .before .reason .ensures) (c .before .if2 .taken))
+    (first-reseed (names-it told) (c .before .before .before .slot-at .ensures) (a .entropy .now) (a .additional .now) (c .before .before .reason .ensures))
+    (c .before .if2 .taken)
 
 reseeded-requires : tie.Need-reseeded-requires
 reseeded-requires c κs =
@@ -58,8 +59,7 @@ reseeded-requires c κs =
     let told = made .before .before .before .before .before in
     let a = told .before .before .before .before .before .before .before .before .before .before .before .args in
     let may =
-    reseed-allowed (tableOf (a .table .now)) (a .handle) (a .entropy .now) (a .additional .now)
-    (names-it told) (made .before .before .before .slot-at .ensures) (made .before .before .reason .ensures) (made .before .if2 .left) in
+    reseed-allowed (names-it told) (made .before .before .before .slot-at .ensures) (a .entropy .now) (a .additional .now) (made .before .before .reason .ensures) (made .before .if2 .left) in
     (may .entropy-most, may .additional-most)
 
 stepped-requires : tie.Need-stepped-requires
@@ -77,10 +77,9 @@ returns-4 c =
     let told = made .before .before .before .before .before in
     let a = told .before .before .before .before .before .before .before .before .before .before .before .args in
     c .before .before .stepped .ensures ∙
-    served-silent _ _ (scanned (told .before .before .before .before .before) .sized)
-    (reseed-served (tableOf (a .table .now)) (a .handle) (a .entropy .now) (a .additional .now)
-    (names-it told) (made .before .before .before .slot-at .ensures) (made .before .before .reason .ensures) (made .before .if2 .left)
-    (rw (made .generator-of .ensures) at (served .reseeded .ensures .0)))
+    served-on _ _ (scanned (told .before .before .before .before .before) .sized)
+    (first-reseed (names-it told) (made .before .before .before .slot-at .ensures) (a .entropy .now) (a .additional .now) (made .before .before .reason .ensures)) (made .before .if2 .left)
+    (reseed-served (names-it told) (made .before .before .before .slot-at .ensures) (a .entropy .now) (a .additional .now) (rw (made .generator-of .ensures) at (served .reseeded .ensures .0)))
 
 pub reseed-spec : {M : Type 1} → statement M
 reseed-spec =
