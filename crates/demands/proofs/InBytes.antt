@@ -1,5 +1,6 @@
 -- The table in the caller's bytes: a refusal changes no byte of it or of the output, and a served call leaves the bytes of its table.
 -- So what is proved of calls on tables holds of the bytes. Assumes nothing.
+use Rattle.slots.specs.Sizes.{tableSize}
 use mathlib.Core.Path.{_≡_, refl, sym, ap, ap₂, subst, _∙_}
 use mathlib.Core.Bool.{Bool, true, false, _||_, cond}
 use mathlib.Core.Logic.{_⊎_, inl, inr, ⊎-elim}
@@ -35,26 +36,26 @@ use Rattle.demands.proofs.Moves.{Moves, stays, adds, steps, ends, moved
 
 module _ (c : Call) (s : List ℕ) where
   -- bytes of any other length are answered 1, and nothing is changed
-  pub other-length : (length s ≡ 2148 → ⊥) → inBytes c s ≡ record { told = toldRefused 1; table = s; output = lent c }
+  pub other-length : (length s ≡ tableSize → ⊥) → inBytes c s ≡ record { told = toldRefused 1; table = s; output = lent c }
   unfolding inBytes
   other-length h =
-      ap (λ b. cond b (done (reply (tableOf s) c)) (record { told = toldRefused 1; table = s; output = lent c })) (ne-eqb (length s) 2148 h)
+      ap (λ b. cond b (done (reply (tableOf s) c)) (record { told = toldRefused 1; table = s; output = lent c })) (ne-eqb (length s) tableSize h)
 
   -- a refusal changes no byte of the table or of the output, and tells 0 blocks and value 0
   pub refusal-keeps-bytes : Bytes s → (inBytes c s .told .number ≡ 0 → ⊥)
       → inBytes c s ≡ record { told = toldRefused (inBytes c s .told .number); table = s; output = lent c }
   unfolding inBytes
-  refusal-keeps-bytes b = go (eqb (length s) 2148) refl
+  refusal-keeps-bytes b = go (eqb (length s) tableSize) refl
     where
       found : Bool → Done
       found long = cond long (done (reply (tableOf s) c)) (record { told = toldRefused 1; table = s; output = lent c })
 
-      go : (long : Bool) → eqb (length s) 2148 ≡ long → (found long .told .number ≡ 0 → ⊥)
+      go : (long : Bool) → eqb (length s) tableSize ≡ long → (found long .told .number ≡ 0 → ⊥)
           → found long ≡ record { told = toldRefused (found long .told .number); table = s; output = lent c }
       go true long some =
           ap done (refusal-keeps (tableOf s) c some) ∙
           ap (λ u. record { told = toldRefused (number (tableOf s) c); table = u; output = lent c })
-          (bytes-tableOf s b (eqb-true (length s) 2148 long))
+          (bytes-tableOf s b (eqb-true (length s) tableSize long))
       go false long some = refl
 
 -- every call leaves a table of machine values, so that its bytes are read back as it
@@ -130,7 +131,7 @@ pub machine-after : (t : Table) (c : Call) → Machine t → Machine (after t c)
 machine-after t c m = machine-moved (moved t c) m (last-after t c (last-small t m))
 
 -- after a call the bytes are the table that follows
-pub after-in-bytes : (c : Call) (s : List ℕ) → Bytes s → length s ≡ 2148 → tableOf (inBytes c s .table) ≡ after (tableOf s) c
+pub after-in-bytes : (c : Call) (s : List ℕ) → Bytes s → length s ≡ tableSize → tableOf (inBytes c s .table) ≡ after (tableOf s) c
 after-in-bytes c s b sized =
     ap (λ (d : Done). tableOf (d .table)) (sym (replied-on c s sized refl)) ∙
     tableOf-bytes (after (tableOf s) c) (machine-after (tableOf s) c (machine-tableOf s b sized))
@@ -144,8 +145,8 @@ all-in-bytes t (c ∷ cs) m =
     ap (λ u. done (reply u c)) (tableOf-bytes t m) in
     ap₂ _∷_ first (ap (λ (d : Done). inBytesAll (d .table) cs) first ∙ all-in-bytes (after t c) cs (machine-after t c m))
 
-pub from-zeros : (cs : List Call) → inBytesAll (replicate 2148 0) cs ≡ map done (run freshTable cs)
+pub from-zeros : (cs : List Call) → inBytesAll (replicate tableSize 0) cs ≡ map done (run freshTable cs)
 from-zeros cs =
-    let zeros = bytes-replicate 2148 0 (lit< tt) in
-    ap (λ s. inBytesAll s cs) (sym (bytes-tableOf (replicate 2148 0) zeros refl) ∙ ap tableBytes fresh-bytes) ∙
-    all-in-bytes freshTable cs (subst Machine fresh-bytes (machine-tableOf (replicate 2148 0) zeros refl))
+    let zeros = bytes-replicate tableSize 0 (lit< tt) in
+    ap (λ s. inBytesAll s cs) (sym (bytes-tableOf (replicate tableSize 0) zeros refl) ∙ ap tableBytes fresh-bytes) ∙
+    all-in-bytes freshTable cs (subst Machine fresh-bytes (machine-tableOf (replicate tableSize 0) zeros refl))

@@ -1,6 +1,7 @@
 -- What running a book prints: a line for each record's answer, from a fresh table, and `book N` for what can't be read.
 -- The table stands in 2,148 bytes, all zero at first. A draw here lends zeros; what is printed tells nothing of what was lent
 -- (proofs/Lent.antt).
+use Rattle.slots.specs.Sizes.{tableSize}
 use Prim.Native.Nat.{ℕ}
 use mathlib.Core.Path.{_≡_}
 use mathlib.Core.List.{List, [], _++_}
@@ -52,4 +53,4 @@ left table book at = printed table book (contentsAt book at)
 
 -- what the program prints
 unfoldable pub printedOf : (book : List ℕ) → List ℕ
-printedOf book = printed (replicate 2148 0) book (contentsOf book)
+printedOf book = printed (replicate tableSize 0) book (contentsOf book)

@@ -1,5 +1,6 @@
 // Runs a call book from a fresh table: a line for each record. All but the writing itself is promised by what a run prints
 // (specs/Run.antt).
+use slots::sizes;
 use book::line;
 use book::record;
 use book::record::Record;
@@ -208,7 +209,7 @@ fn run_some(table: &mut [u8], book: &[u8], from: usize, out: &mut [u8], text: &m
 }
 
 fn run_book(book: &[u8]) {
-    let mut table = [0u8; 2148];
+    let mut table = [0u8; sizes::TABLE];
     let mut out = [0u8; 65536];
     let mut text = [0u8; 135252];
     let mut at = 0;

@@ -1,5 +1,6 @@
 -- The scan of a table for soundness: a counter that is read before 1 is added, a slot's fields in two parts, slot after slot.
 -- Assumes nothing.
+use Rattle.slots.specs.Sizes.{fieldSize}
 use mathlib.Core.Path.{_≡_, refl, sym, ap, ap₂, _∙_}
 use mathlib.Core.Bool.{Bool, true, false, _&&_, _||_}
 use mathlib.Core.List.{List}
@@ -47,7 +48,7 @@ or-none : (b : Bool) → b ≡ (b || false)
 or-none true = refl
 or-none false = refl
 
-module _ (last : ℕ) (s : Slot) (first : length (s .first) ≡ 55) (second : length (s .second) ≡ 55) where
+module _ (last : ℕ) (s : Slot) (first : length (s .first) ≡ fieldSize) (second : length (s .second) ≡ fieldSize) where
   abbrev free-so : Bool
   free-so = freeNumbers (s .mechanism) (s .strength) (s .interval) (s .counter) (s .fresh) (s .serial)
 

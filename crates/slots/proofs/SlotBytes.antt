@@ -1,4 +1,5 @@
 -- A slot and its 134 bytes: nothing is lost either way. Assumes nothing.
+use Rattle.slots.specs.Sizes.{fieldSize, intervalAt, counterAt, freshAt, serialAt, firstAt, secondAt, slotSize}
 use mathlib.Core.Path.{_≡_, refl, sym, ap, ap₂, _∙_}
 use mathlib.Core.List.{List, [], _∷_, _++_}
 use Prim.Native.Nat.{ℕ, _+_, _^_, _≤_, _<_}
@@ -14,14 +15,14 @@ use Rattle.slots.specs.Slots.{slotBytes, slotFrom}
 use Rattle.slots.proofs.LittleEndian.{length-littleEndian, from-littleEndian, littleEndian-from, length-part}
 
 -- from the bytes to the slot and back: field after field
-module _ (p : List ℕ) (b : Bytes p) (sized : length p ≡ 134) where
+module _ (p : List ℕ) (b : Bytes p) (sized : length p ≡ slotSize) where
   take-more : {a : List ℕ} (at n : ℕ) (c : List ℕ) → take at p ≡ a → c ≡ part at n p → take (at + n) p ≡ a ++ c
   take-more at n c front is = take-add at n p ∙ ap₂ _++_ front (sym is)
 
-  number : (at n : ℕ) → at + n ≤ 134 → littleEndian n (fromLittleEndian (part at n p)) ≡ part at n p
+  number : (at n : ℕ) → at + n ≤ slotSize → littleEndian n (fromLittleEndian (part at n p)) ≡ part at n p
   number at n room = littleEndian-from n (bytes-take n (bytes-drop at b)) (length-part at n p (omega (arith, sized)))
 
-  byte : (at : ℕ) → at < 134 → getD p at 0 ∷ [] ≡ part at 1 p
+  byte : (at : ℕ) → at < slotSize → getD p at 0 ∷ [] ≡ part at 1 p
   byte at room = sym (ap (take 1) (drop-cons p at 0 (omega (arith, sized))))
 
   pub bytes-slotFrom : slotBytes (slotFrom p) ≡ p
@@ -29,13 +30,13 @@ module _ (p : List ℕ) (b : Bytes p) (sized : length p ≡ 134) where
   bytes-slotFrom =
       let f1 = take-more 0 1 _ refl (byte 0 (omega arith)) in
       let f2 = take-more 1 2 _ f1 (number 1 2 (omega arith)) in
-      let f3 = take-more 3 8 _ f2 (number 3 8 (omega arith)) in
-      let f4 = take-more 11 8 _ f3 (number 11 8 (omega arith)) in
-      let f5 = take-more 19 1 _ f4 (byte 19 (omega arith)) in
-      let f6 = take-more 20 4 _ f5 (number 20 4 (omega arith)) in
-      let f7 = take-more 24 55 _ f6 refl in
-      let f8 = take-more 79 55 _ f7 refl in
-      sym f8 ∙ take-all 134 p (le-of-eq sized)
+      let f3 = take-more intervalAt 8 _ f2 (number intervalAt 8 (omega arith)) in
+      let f4 = take-more counterAt 8 _ f3 (number counterAt 8 (omega arith)) in
+      let f5 = take-more freshAt 1 _ f4 (byte freshAt (omega arith)) in
+      let f6 = take-more serialAt 4 _ f5 (number serialAt 4 (omega arith)) in
+      let f7 = take-more firstAt fieldSize _ f6 refl in
+      let f8 = take-more secondAt fieldSize _ f7 refl in
+      sym f8 ∙ take-all slotSize p (le-of-eq sized)
 
 -- a slot of machine numbers
 pub record Fits (s : Slot) : Type 0 where
@@ -43,8 +44,8 @@ pub record Fits (s : Slot) : Type 0 where
   pub interval : s .interval < 2 ^ 64
   pub counter : s .counter < 2 ^ 64
   pub serial : s .serial < 2 ^ 32
-  pub first : length (s .first) ≡ 55
-  pub second : length (s .second) ≡ 55
+  pub first : length (s .first) ≡ fieldSize
+  pub second : length (s .second) ≡ fieldSize
 
 -- a front, and what stands behind it
 length-more : (a b : List ℕ) (m n : ℕ) → length a ≡ m → length b ≡ n → length (a ++ b) ≡ m + n
@@ -65,13 +66,13 @@ byte-of p at {b} is =
 module _ (s : Slot) (fits : Fits s) where
   record Stands : Type 0 where
     strength : part 1 2 (slotBytes s) ≡ littleEndian 2 (s .strength)
-    interval : part 3 8 (slotBytes s) ≡ littleEndian 8 (s .interval)
-    counter : part 11 8 (slotBytes s) ≡ littleEndian 8 (s .counter)
-    fresh : part 19 1 (slotBytes s) ≡ s .fresh ∷ []
-    serial : part 20 4 (slotBytes s) ≡ littleEndian 4 (s .serial)
-    first : part 24 55 (slotBytes s) ≡ s .first
-    second : part 79 55 (slotBytes s) ≡ s .second
-    all : length (slotBytes s) ≡ 134
+    interval : part intervalAt 8 (slotBytes s) ≡ littleEndian 8 (s .interval)
+    counter : part counterAt 8 (slotBytes s) ≡ littleEndian 8 (s .counter)
+    fresh : part freshAt 1 (slotBytes s) ≡ s .fresh ∷ []
+    serial : part serialAt 4 (slotBytes s) ≡ littleEndian 4 (s .serial)
+    first : part firstAt fieldSize (slotBytes s) ≡ s .first
+    second : part secondAt fieldSize (slotBytes s) ≡ s .second
+    all : length (slotBytes s) ≡ slotSize
 
   stands : Stands
   unfolding slotBytes
@@ -85,31 +86,31 @@ module _ (s : Slot) (fits : Fits s) where
       let a6 = a5 ++ littleEndian 4 (s .serial) in
       let a7 = a6 ++ s .first in
       let n2 = length-more a1 (littleEndian 2 (s .strength)) 1 2 refl (length-littleEndian 2 (s .strength)) in
-      let n3 = length-more a2 (littleEndian 8 (s .interval)) 3 8 n2 (length-littleEndian 8 (s .interval)) in
-      let n4 = length-more a3 (littleEndian 8 (s .counter)) 11 8 n3 (length-littleEndian 8 (s .counter)) in
-      let n5 = length-more a4 (s .fresh ∷ []) 19 1 n4 refl in
-      let n6 = length-more a5 (littleEndian 4 (s .serial)) 20 4 n5 (length-littleEndian 4 (s .serial)) in
-      let n7 = length-more a6 (s .first) 24 55 n6 (fits .first) in
-      let n8 = length-more a7 (s .second) 79 55 n7 (fits .second) in
-      let t8 : take 134 p ≡ p = take-all 134 p (le-of-eq n8) in
-      let t7 : take 79 p ≡ a7 = take-at a7 (s .second) 79 n7 in
-      let t6 : take 24 p ≡ a6 = sym (take-take 24 79 p (lit≤ tt)) ∙ ap (take 24) t7 ∙ take-at a6 (s .first) 24 n6 in
-      let t5 : take 20 p ≡ a5 = sym (take-take 20 24 p (lit≤ tt)) ∙ ap (take 20) t6 ∙ take-at a5 (littleEndian 4 (s .serial)) 20 n5 in
-      let t4 : take 19 p ≡ a4 = sym (take-take 19 20 p (lit≤ tt)) ∙ ap (take 19) t5 ∙ take-at a4 (s .fresh ∷ []) 19 n4 in
-      let t3 : take 11 p ≡ a3 = sym (take-take 11 19 p (lit≤ tt)) ∙ ap (take 11) t4 ∙ take-at a3 (littleEndian 8 (s .counter)) 11 n3 in
-      let t2 : take 3 p ≡ a2 = sym (take-take 3 11 p (lit≤ tt)) ∙ ap (take 3) t3 ∙ take-at a2 (littleEndian 8 (s .interval)) 3 n2 in
+      let n3 = length-more a2 (littleEndian 8 (s .interval)) intervalAt 8 n2 (length-littleEndian 8 (s .interval)) in
+      let n4 = length-more a3 (littleEndian 8 (s .counter)) counterAt 8 n3 (length-littleEndian 8 (s .counter)) in
+      let n5 = length-more a4 (s .fresh ∷ []) freshAt 1 n4 refl in
+      let n6 = length-more a5 (littleEndian 4 (s .serial)) serialAt 4 n5 (length-littleEndian 4 (s .serial)) in
+      let n7 = length-more a6 (s .first) firstAt fieldSize n6 (fits .first) in
+      let n8 = length-more a7 (s .second) secondAt fieldSize n7 (fits .second) in
+      let t8 : take slotSize p ≡ p = take-all slotSize p (le-of-eq n8) in
+      let t7 : take secondAt p ≡ a7 = take-at a7 (s .second) secondAt n7 in
+      let t6 : take firstAt p ≡ a6 = sym (take-take firstAt secondAt p (lit≤ tt)) ∙ ap (take firstAt) t7 ∙ take-at a6 (s .first) firstAt n6 in
+      let t5 : take serialAt p ≡ a5 = sym (take-take serialAt firstAt p (lit≤ tt)) ∙ ap (take serialAt) t6 ∙ take-at a5 (littleEndian 4 (s .serial)) serialAt n5 in
+      let t4 : take freshAt p ≡ a4 = sym (take-take freshAt serialAt p (lit≤ tt)) ∙ ap (take freshAt) t5 ∙ take-at a4 (s .fresh ∷ []) freshAt n4 in
+      let t3 : take counterAt p ≡ a3 = sym (take-take counterAt freshAt p (lit≤ tt)) ∙ ap (take counterAt) t4 ∙ take-at a3 (littleEndian 8 (s .counter)) counterAt n3 in
+      let t2 : take intervalAt p ≡ a2 = sym (take-take intervalAt counterAt p (lit≤ tt)) ∙ ap (take intervalAt) t3 ∙ take-at a2 (littleEndian 8 (s .interval)) intervalAt n2 in
       record {
         strength = part-behind p a1 (littleEndian 2 (s .strength)) 1 2 refl refl t2;
-        interval = part-behind p a2 (littleEndian 8 (s .interval)) 3 8 n2 t2 t3;
-        counter = part-behind p a3 (littleEndian 8 (s .counter)) 11 8 n3 t3 t4;
-        fresh = part-behind p a4 (s .fresh ∷ []) 19 1 n4 t4 t5;
-        serial = part-behind p a5 (littleEndian 4 (s .serial)) 20 4 n5 t5 t6;
-        first = part-behind p a6 (s .first) 24 55 n6 t6 t7;
-        second = part-behind p a7 (s .second) 79 55 n7 t7 t8;
+        interval = part-behind p a2 (littleEndian 8 (s .interval)) intervalAt 8 n2 t2 t3;
+        counter = part-behind p a3 (littleEndian 8 (s .counter)) counterAt 8 n3 t3 t4;
+        fresh = part-behind p a4 (s .fresh ∷ []) freshAt 1 n4 t4 t5;
+        serial = part-behind p a5 (littleEndian 4 (s .serial)) serialAt 4 n5 t5 t6;
+        first = part-behind p a6 (s .first) firstAt fieldSize n6 t6 t7;
+        second = part-behind p a7 (s .second) secondAt fieldSize n7 t7 t8;
         all = n8;
       }
 
-  pub length-slotBytes : length (slotBytes s) ≡ 134
+  pub length-slotBytes : length (slotBytes s) ≡ slotSize
   length-slotBytes = stands .all
 
   head-byte : getD (slotBytes s) 0 0 ≡ s .mechanism
@@ -121,7 +122,7 @@ module _ (s : Slot) (fits : Fits s) where
   slotFrom-bytes =
       rw (
         head-byte,
-        byte-of _ 19 (stands .fresh),
+        byte-of _ freshAt (stands .fresh),
         stands .strength,
         stands .interval,
         stands .counter,

@@ -1,4 +1,5 @@
 -- What a sound table's slots are, and that one sound slot more keeps a table sound. Assumes nothing.
+use Rattle.slots.specs.Sizes.{fieldSize}
 use mathlib.Core.Path.{_≡_, refl, sym, ap, ap₂, subst, _∙_}
 use mathlib.Core.Bool.{Bool, true, false, false≢true, not, _&&_, _||_}
 use mathlib.Core.Logic.{_⊎_, inl, inr, ⊎-elim}
@@ -21,7 +22,7 @@ use Rattle.slots.proofs.Slots.{Has, slotAt-cases, lastSerial-withSlot, 
 
 -- a field of a used slot
 pub record Field (mechanism : ℕ) (field : List ℕ) : Type 0 where
-  pub bytes : length field ≡ 55
+  pub bytes : length field ≡ fieldSize
   pub rest : (eqb mechanism 2 || allZero (drop 32 field)) ≡ true
 
 -- a used slot, as document 01 has it
@@ -40,11 +41,11 @@ pub record Used (last : ℕ) (s : Slot) : Type 0 where
 
 field-of : (mechanism : ℕ) (field : List ℕ) → usedField mechanism field ≡ true → Field mechanism field
 field-of mechanism field h =
-    let parts = both (eqb (length field) 55) (eqb mechanism 2 || allZero (drop 32 field)) h in
-    record { bytes = eqb-true (length field) 55 (parts .0); rest = parts .1 }
+    let parts = both (eqb (length field) fieldSize) (eqb mechanism 2 || allZero (drop 32 field)) h in
+    record { bytes = eqb-true (length field) fieldSize (parts .0); rest = parts .1 }
 
 of-field : (mechanism : ℕ) (field : List ℕ) → Field mechanism field → usedField mechanism field ≡ true
-of-field mechanism field f = and-both (eq-eqb (length field) 55 (f .bytes)) (f .rest)
+of-field mechanism field f = and-both (eq-eqb (length field) fieldSize (f .bytes)) (f .rest)
 
 between-of : (least x most : ℕ) → between least x most ≡ true → (least ≤ x) × (x ≤ most)
 between-of least x most h =
@@ -57,12 +58,12 @@ of-either : (a b x : ℕ) → (x ≡ a) ⊎ (x ≡ b) → (eqb x a || eqb x b) �
 of-either a b x (inl e) = or-first (eqb x b) (eq-eqb x a e)
 of-either a b x (inr e) = or-second (eqb x a) (eq-eqb x b e)
 
-zero-field : (field : List ℕ) → freeField field ≡ true → field ≡ replicate 55 0
+zero-field : (field : List ℕ) → freeField field ≡ true → field ≡ replicate fieldSize 0
 zero-field field h =
-    let parts = both (eqb (length field) 55) (allZero field) h in
-    all-zero-is field (parts .1) ∙ ap (λ n. replicate n 0) (eqb-true (length field) 55 (parts .0))
+    let parts = both (eqb (length field) fieldSize) (allZero field) h in
+    all-zero-is field (parts .1) ∙ ap (λ n. replicate n 0) (eqb-true (length field) fieldSize (parts .0))
 
-slot-is : {m n i c f k : ℕ} {x y : List ℕ} → m ≡ 0 → n ≡ 0 → i ≡ 0 → c ≡ 0 → f ≡ 0 → k ≡ 0 → x ≡ replicate 55 0 → y ≡ replicate 55 0
+slot-is : {m n i c f k : ℕ} {x y : List ℕ} → m ≡ 0 → n ≡ 0 → i ≡ 0 → c ≡ 0 → f ≡ 0 → k ≡ 0 → x ≡ replicate fieldSize 0 → y ≡ replicate fieldSize 0
     → record { mechanism = m; strength = n; interval = i; counter = c; fresh = f; serial = k; first = x; second = y } ≡ freeSlot
 slot-is e₁ e₂ e₃ e₄ e₅ e₆ e₇ e₈ = cc
 

@@ -1,4 +1,5 @@
 -- A table and its 2,148 bytes: nothing is lost either way, and a slot or the last serial put in. Assumes nothing.
+use Rattle.slots.specs.Sizes.{fieldSize, strengthAt, intervalAt, counterAt, serialAt, firstAt, secondAt, slotSize, lastAt, tableSize}
 use mathlib.Core.Path.{_≡_, refl, sym, ap, ap₂, subst, _∙_}
 use mathlib.Core.List.{List, [], _∷_, _++_, append-assoc, append-nil}
 use Prim.Native.Nat.{ℕ, zero, suc, _+_, _-_, _*_, _^_, _≤_, _<_, suc-le-suc}
@@ -19,66 +20,66 @@ use Rattle.slots.proofs.LittleEndian.{length-littleEndian, from-below, 
 use Rattle.slots.proofs.LittleEndian.{length-part, paste-whole}
 use Rattle.slots.proofs.SlotBytes.{bytes-slotFrom, Fits, length-slotBytes, slotFrom-bytes}
 
-next : (n : ℕ) → 134 + 134 * n ≡ 134 * suc n
+next : (n : ℕ) → slotSize + slotSize * n ≡ slotSize * suc n
 next n = omega arith
 
-drop-next : (n : ℕ) (s : List ℕ) → drop (134 * n) (drop 134 s) ≡ drop (134 * suc n) s
-drop-next n s = drop-drop (134 * n) 134 s ∙ ap (λ k. drop k s) (next n)
+drop-next : (n : ℕ) (s : List ℕ) → drop (slotSize * n) (drop slotSize s) ≡ drop (slotSize * suc n) s
+drop-next n s = drop-drop (slotSize * n) slotSize s ∙ ap (λ k. drop k s) (next n)
 
-pub slots-at : (n i : ℕ) (s : List ℕ) → i < n → getD (slotsFrom n s) i noSlot ≡ slotFrom (part (134 * i) 134 s)
+pub slots-at : (n i : ℕ) (s : List ℕ) → i < n → getD (slotsFrom n s) i noSlot ≡ slotFrom (part (slotSize * i) slotSize s)
 unfolding slotsFrom
 slots-at zero i s room = absurd (not-suc-le-zero room)
 slots-at (suc n) zero s room = refl
 slots-at (suc n) (suc i) s room =
-    slots-at n i (drop 134 s) (le-of-suc-le-suc room) ∙ ap (λ u. slotFrom (take 134 u)) (drop-next i s)
+    slots-at n i (drop slotSize s) (le-of-suc-le-suc room) ∙ ap (λ u. slotFrom (take slotSize u)) (drop-next i s)
 
-first-slot : (n : ℕ) (s : List ℕ) → Bytes s → 134 * suc n ≤ length s → slotBytes (slotFrom (take 134 s)) ≡ take 134 s
-first-slot n s b room = bytes-slotFrom (take 134 s) (bytes-take 134 b) (length-take-le 134 s (omega arith))
+first-slot : (n : ℕ) (s : List ℕ) → Bytes s → slotSize * suc n ≤ length s → slotBytes (slotFrom (take slotSize s)) ≡ take slotSize s
+first-slot n s b room = bytes-slotFrom (take slotSize s) (bytes-take slotSize b) (length-take-le slotSize s (omega arith))
 
-less : (n : ℕ) (s : List ℕ) → 134 * suc n ≤ length s → 134 * n ≤ length (drop 134 s)
+less : (n : ℕ) (s : List ℕ) → slotSize * suc n ≤ length s → slotSize * n ≤ length (drop slotSize s)
 less n s room = rw length-drop (omega arith)
 
-pub slots-bytes : (n : ℕ) (s : List ℕ) → Bytes s → 134 * n ≤ length s → slotsBytes (slotsFrom n s) ++ drop (134 * n) s ≡ s
+pub slots-bytes : (n : ℕ) (s : List ℕ) → Bytes s → slotSize * n ≤ length s → slotsBytes (slotsFrom n s) ++ drop (slotSize * n) s ≡ s
 unfolding slotsBytes slotsFrom
 slots-bytes zero s b room = refl
 slots-bytes (suc n) s b room =
-    append-assoc (slotBytes (slotFrom (take 134 s))) (slotsBytes (slotsFrom n (drop 134 s))) (drop (134 * suc n) s) ∙
-    ap₂ (λ u v. u ++ (slotsBytes (slotsFrom n (drop 134 s)) ++ v)) (first-slot n s b room) (sym (drop-next n s)) ∙
-    ap (λ u. take 134 s ++ u) (slots-bytes n (drop 134 s) (bytes-drop 134 b) (less n s room)) ∙
-    take-append-drop 134 s
+    append-assoc (slotBytes (slotFrom (take slotSize s))) (slotsBytes (slotsFrom n (drop slotSize s))) (drop (slotSize * suc n) s) ∙
+    ap₂ (λ u v. u ++ (slotsBytes (slotsFrom n (drop slotSize s)) ++ v)) (first-slot n s b room) (sym (drop-next n s)) ∙
+    ap (λ u. take slotSize s ++ u) (slots-bytes n (drop slotSize s) (bytes-drop slotSize b) (less n s room)) ∙
+    take-append-drop slotSize s
 
 -- slot i put in
-pub slots-put : (n i : ℕ) (s : List ℕ) (x : Slot) → i < n → Bytes s → 134 * n ≤ length s
-    → slotsBytes (set (slotsFrom n s) i x) ++ drop (134 * n) s ≡ take (134 * i) s ++ (slotBytes x ++ drop (134 * i + 134) s)
+pub slots-put : (n i : ℕ) (s : List ℕ) (x : Slot) → i < n → Bytes s → slotSize * n ≤ length s
+    → slotsBytes (set (slotsFrom n s) i x) ++ drop (slotSize * n) s ≡ take (slotSize * i) s ++ (slotBytes x ++ drop (slotSize * i + slotSize) s)
 unfolding slotsBytes slotsFrom
 slots-put zero i s x below b room = absurd (not-suc-le-zero below)
 slots-put (suc n) zero s x below b room =
-    append-assoc (slotBytes x) (slotsBytes (slotsFrom n (drop 134 s))) (drop (134 * suc n) s) ∙
-    ap (λ v. slotBytes x ++ (slotsBytes (slotsFrom n (drop 134 s)) ++ v)) (sym (drop-next n s)) ∙
-    ap (λ u. slotBytes x ++ u) (slots-bytes n (drop 134 s) (bytes-drop 134 b) (less n s room))
+    append-assoc (slotBytes x) (slotsBytes (slotsFrom n (drop slotSize s))) (drop (slotSize * suc n) s) ∙
+    ap (λ v. slotBytes x ++ (slotsBytes (slotsFrom n (drop slotSize s)) ++ v)) (sym (drop-next n s)) ∙
+    ap (λ u. slotBytes x ++ u) (slots-bytes n (drop slotSize s) (bytes-drop slotSize b) (less n s room))
 slots-put (suc n) (suc i) s x below b room =
-    append-assoc (slotBytes (slotFrom (take 134 s))) (slotsBytes (set (slotsFrom n (drop 134 s)) i x)) (drop (134 * suc n) s) ∙
-    ap₂ (λ u v. u ++ (slotsBytes (set (slotsFrom n (drop 134 s)) i x) ++ v)) (first-slot n s b room) (sym (drop-next n s)) ∙
-    ap (λ u. take 134 s ++ u) (slots-put n i (drop 134 s) x (le-of-suc-le-suc below) (bytes-drop 134 b) (less n s room)) ∙
+    append-assoc (slotBytes (slotFrom (take slotSize s))) (slotsBytes (set (slotsFrom n (drop slotSize s)) i x)) (drop (slotSize * suc n) s) ∙
+    ap₂ (λ u v. u ++ (slotsBytes (set (slotsFrom n (drop slotSize s)) i x) ++ v)) (first-slot n s b room) (sym (drop-next n s)) ∙
+    ap (λ u. take slotSize s ++ u) (slots-put n i (drop slotSize s) x (le-of-suc-le-suc below) (bytes-drop slotSize b) (less n s room)) ∙
     behind i s x
   where
     behind : (i : ℕ) (s : List ℕ) (x : Slot)
-        → take 134 s ++ (take (134 * i) (drop 134 s) ++ (slotBytes x ++ drop (134 * i + 134) (drop 134 s)))
-        ≡ take (134 * suc i) s ++ (slotBytes x ++ drop (134 * suc i + 134) s)
+        → take slotSize s ++ (take (slotSize * i) (drop slotSize s) ++ (slotBytes x ++ drop (slotSize * i + slotSize) (drop slotSize s)))
+        ≡ take (slotSize * suc i) s ++ (slotBytes x ++ drop (slotSize * suc i + slotSize) s)
     behind i s x =
-        let far : 134 + (134 * i + 134) ≡ 134 * suc i + 134 = omega arith in
-        sym (append-assoc (take 134 s) (take (134 * i) (drop 134 s)) (slotBytes x ++ drop (134 * i + 134) (drop 134 s))) ∙
-        ap₂ (λ u v. u ++ (slotBytes x ++ v)) (sym (take-add 134 (134 * i) s) ∙ ap (λ k. take k s) (next i))
-        (drop-drop (134 * i + 134) 134 s ∙ ap (λ k. drop k s) far)
+        let far : slotSize + (slotSize * i + slotSize) ≡ slotSize * suc i + slotSize = omega arith in
+        sym (append-assoc (take slotSize s) (take (slotSize * i) (drop slotSize s)) (slotBytes x ++ drop (slotSize * i + slotSize) (drop slotSize s))) ∙
+        ap₂ (λ u v. u ++ (slotBytes x ++ v)) (sym (take-add slotSize (slotSize * i) s) ∙ ap (λ k. take k s) (next i))
+        (drop-drop (slotSize * i + slotSize) slotSize s ∙ ap (λ k. drop k s) far)
 
-module _ (s : List ℕ) (b : Bytes s) (sized : length s ≡ 2148) where
-  last-bytes : littleEndian 4 (fromLittleEndian (part 2144 4 s)) ≡ drop 2144 s
+module _ (s : List ℕ) (b : Bytes s) (sized : length s ≡ tableSize) where
+  last-bytes : littleEndian 4 (fromLittleEndian (part lastAt 4 s)) ≡ drop lastAt s
   last-bytes =
-      let left : length (drop 2144 s) ≤ 4 = rw length-drop (omega (arith, sized)) in
-      littleEndian-from 4 (bytes-take 4 (bytes-drop 2144 b)) (length-part 2144 4 s (omega (arith, sized))) ∙
-      take-all 4 (drop 2144 s) left
+      let left : length (drop lastAt s) ≤ 4 = rw length-drop (omega (arith, sized)) in
+      littleEndian-from 4 (bytes-take 4 (bytes-drop lastAt b)) (length-part lastAt 4 s (omega (arith, sized))) ∙
+      take-all 4 (drop lastAt s) left
 
-  room : 134 * 16 ≤ length s
+  room : slotSize * 16 ≤ length s
   room = omega (arith, sized)
 
   -- from the bytes to the table and back
@@ -88,33 +89,33 @@ module _ (s : List ℕ) (b : Bytes s) (sized : length s ≡ 2148) where
 
   -- a slot put in where it stands
   pub table-put : (i : ℕ) (x : Slot) {p : List ℕ} → i < 16 → p ≡ slotBytes x
-      → take (134 * i) s ++ (p ++ drop (134 * i + 134 - 134 * i) (drop (134 * i) s)) ≡ tableBytes (withSlot (tableOf s) i x)
+      → take (slotSize * i) s ++ (p ++ drop (slotSize * i + slotSize - slotSize * i) (drop (slotSize * i) s)) ≡ tableBytes (withSlot (tableOf s) i x)
   unfolding tableBytes tableOf withSlot
   table-put i x below is =
-      let whole : 134 * i + 134 - 134 * i ≡ 134 = omega arith in
-      ap₂ (λ u v. take (134 * i) s ++ (u ++ v)) is (ap (λ n. drop n (drop (134 * i) s)) whole ∙ drop-drop 134 (134 * i) s) ∙
+      let whole : slotSize * i + slotSize - slotSize * i ≡ slotSize = omega arith in
+      ap₂ (λ u v. take (slotSize * i) s ++ (u ++ v)) is (ap (λ n. drop n (drop (slotSize * i) s)) whole ∙ drop-drop slotSize (slotSize * i) s) ∙
       sym (slots-put 16 i s x below b room) ∙
       ap (λ u. slotsBytes (set (slotsFrom 16 s) i x) ++ u) (sym last-bytes)
 
 -- a slot read where it stands
-pub slot-read : (s : List ℕ) (i : ℕ) → i < 16 → slotFrom (take (134 * i + 134 - 134 * i) (drop (134 * i) s)) ≡ slotAt (tableOf s) i
+pub slot-read : (s : List ℕ) (i : ℕ) → i < 16 → slotFrom (take (slotSize * i + slotSize - slotSize * i) (drop (slotSize * i) s)) ≡ slotAt (tableOf s) i
 unfolding slotAt tableOf
 slot-read s i below =
-    let whole : 134 * i + 134 - 134 * i ≡ 134 = omega arith in
-    ap (λ n. slotFrom (take n (drop (134 * i) s))) whole ∙ sym (slots-at 16 i s below)
+    let whole : slotSize * i + slotSize - slotSize * i ≡ slotSize = omega arith in
+    ap (λ n. slotFrom (take n (drop (slotSize * i) s))) whole ∙ sym (slots-at 16 i s below)
 
 -- the last serial put in
-pub last-put : (u : Table) (serial : ℕ) {e f : List ℕ} → e ≡ tableBytes u → length e ≡ 2148 → f ≡ paste e 2144 (littleEndian 4 serial) 4
+pub last-put : (u : Table) (serial : ℕ) {e f : List ℕ} → e ≡ tableBytes u → length e ≡ tableSize → f ≡ paste e lastAt (littleEndian 4 serial) 4
     → f ≡ tableBytes (withLastSerial u serial)
 unfolding tableBytes withLastSerial
 last-put u serial {e} {f} is sized put =
-    let parts : length (slotsBytes (u .slots)) + length (littleEndian 4 (u .last)) ≡ 2148 =
+    let parts : length (slotsBytes (u .slots)) + length (littleEndian 4 (u .last)) ≡ tableSize =
     sym (length-append (slotsBytes (u .slots)) (littleEndian 4 (u .last))) ∙ ap length (sym is) ∙ sized in
-    let front : length (slotsBytes (u .slots)) ≡ 2144 = omega (arith, parts, length-littleEndian 4 (u .last)) in
+    let front : length (slotsBytes (u .slots)) ≡ lastAt = omega (arith, parts, length-littleEndian 4 (u .last)) in
     put ∙
-    paste-whole e (littleEndian 4 serial) 2144 4 (length-littleEndian 4 serial) ∙
+    paste-whole e (littleEndian 4 serial) lastAt 4 (length-littleEndian 4 serial) ∙
     ap₂ (λ a c. a ++ littleEndian 4 serial ++ c)
-    (ap (take 2144) is ∙ take-at (slotsBytes (u .slots)) (littleEndian 4 (u .last)) 2144 front)
+    (ap (take lastAt) is ∙ take-at (slotsBytes (u .slots)) (littleEndian 4 (u .last)) lastAt front)
     (drop-of-length-le e (le-of-eq sized)) ∙
     append-nil (slotsBytes (u .slots) ++ littleEndian 4 serial)
 
@@ -132,13 +133,13 @@ slots-from (s ∷ slots) rest fit =
     let whole = length-slotBytes s (fit 0 (zero-lt-suc (length slots))) in
     let apart = append-assoc (slotBytes s) (slotsBytes slots) rest in
     ap₂ _∷_
-    (ap slotFrom (ap (take 134) apart ∙ take-at (slotBytes s) (slotsBytes slots ++ rest) 134 whole) ∙
+    (ap slotFrom (ap (take slotSize) apart ∙ take-at (slotBytes s) (slotsBytes slots ++ rest) slotSize whole) ∙
     slotFrom-bytes s (fit 0 (zero-lt-suc (length slots))))
-    (ap (slotsFrom (length slots)) (ap (drop 134) apart ∙ drop-at (slotBytes s) (slotsBytes slots ++ rest) 134 whole) ∙
+    (ap (slotsFrom (length slots)) (ap (drop slotSize) apart ∙ drop-at (slotBytes s) (slotsBytes slots ++ rest) slotSize whole) ∙
     slots-from slots rest (λ i below. fit (suc i) (suc-le-suc below)))
 
 length-slots : (slots : List Slot) → ((i : ℕ) → i < length slots → Fits (getD slots i noSlot))
-    → length (slotsBytes slots) ≡ 134 * length slots
+    → length (slotsBytes slots) ≡ slotSize * length slots
 unfolding slotsBytes
 length-slots [] fit = refl
 length-slots (s ∷ slots) fit =
@@ -151,10 +152,10 @@ module _ (t : Table) (m : Machine t) where
   unfolding slotAt
   fit i below = m .fit i (subst (λ n. i < n) (m .sixteen) below)
 
-  front : length (slotsBytes (t .slots)) ≡ 2144
-  front = length-slots (t .slots) fit ∙ ap (λ n. 134 * n) (m .sixteen)
+  front : length (slotsBytes (t .slots)) ≡ lastAt
+  front = length-slots (t .slots) fit ∙ ap (λ n. slotSize * n) (m .sixteen)
 
-  pub length-tableBytes : length (tableBytes t) ≡ 2148
+  pub length-tableBytes : length (tableBytes t) ≡ tableSize
   unfolding tableBytes
   length-tableBytes = length-append (slotsBytes (t .slots)) (littleEndian 4 (t .last)) ∙ ap₂ _+_ front (length-littleEndian 4 (t .last))
 
@@ -165,29 +166,29 @@ module _ (t : Table) (m : Machine t) where
       let last = littleEndian 4 (t .last) in
       ap₂ (λ slots n. record { slots = slots; last = n })
       (ap (λ n. slotsFrom n (slotsBytes (t .slots) ++ last)) (sym (m .sixteen)) ∙ slots-from (t .slots) last fit)
-      (ap (λ s. fromLittleEndian (take 4 s)) (drop-at (slotsBytes (t .slots)) last 2144 front) ∙
+      (ap (λ s. fromLittleEndian (take 4 s)) (drop-at (slotsBytes (t .slots)) last lastAt front) ∙
       ap fromLittleEndian (take-all 4 last (le-of-eq (length-littleEndian 4 (t .last)))) ∙
       from-littleEndian 4 (t .last) (m .last))
 
 -- all bytes zero are the fresh table
-pub fresh-bytes : tableOf (replicate 2148 0) ≡ freshTable
+pub fresh-bytes : tableOf (replicate tableSize 0) ≡ freshTable
 unfolding tableOf slotsFrom slotFrom fromLittleEndian numberOf freshTable
 fresh-bytes = refl
 
 -- and any 2,148 bytes are a table of machine values
-fits-slotFrom : (p : List ℕ) → Bytes p → length p ≡ 134 → Fits (slotFrom p)
+fits-slotFrom : (p : List ℕ) → Bytes p → length p ≡ slotSize → Fits (slotFrom p)
 unfolding slotFrom
 fits-slotFrom p b sized =
     record {
-      strength = small 1 2 (lit≤ tt);
-      interval = small 3 8 (lit≤ tt);
-      counter = small 11 8 (lit≤ tt);
-      serial = small 20 4 (lit≤ tt);
-      first = length-part 24 55 p (omega (arith, sized));
-      second = length-part 79 55 p (omega (arith, sized));
+      strength = small strengthAt 2 (lit≤ tt);
+      interval = small intervalAt 8 (lit≤ tt);
+      counter = small counterAt 8 (lit≤ tt);
+      serial = small serialAt 4 (lit≤ tt);
+      first = length-part firstAt fieldSize p (omega (arith, sized));
+      second = length-part secondAt fieldSize p (omega (arith, sized));
     }
   where
-    small : (at n : ℕ) → at + n ≤ 134 → fromLittleEndian (part at n p) < 256 ^ n
+    small : (at n : ℕ) → at + n ≤ slotSize → fromLittleEndian (part at n p) < 256 ^ n
     small at n room =
         subst (λ k. fromLittleEndian (part at n p) < 256 ^ k) (length-part at n p (omega (arith, sized)))
         (from-below (bytes-take n (bytes-drop at b)))
@@ -195,18 +196,18 @@ fits-slotFrom p b sized =
 length-slotsFrom : (n : ℕ) (s : List ℕ) → length (slotsFrom n s) ≡ n
 unfolding slotsFrom
 length-slotsFrom zero s = refl
-length-slotsFrom (suc n) s = ap suc (length-slotsFrom n (drop 134 s))
+length-slotsFrom (suc n) s = ap suc (length-slotsFrom n (drop slotSize s))
 
-pub machine-tableOf : (s : List ℕ) → Bytes s → length s ≡ 2148 → Machine (tableOf s)
+pub machine-tableOf : (s : List ℕ) → Bytes s → length s ≡ tableSize → Machine (tableOf s)
 unfolding tableOf slotAt
 machine-tableOf s b sized =
     record {
       sixteen = length-slotsFrom 16 s;
       fit = λ i below.
           subst Fits (sym (slots-at 16 i s below))
-          (fits-slotFrom (part (134 * i) 134 s) (bytes-take 134 (bytes-drop (134 * i) b))
-          (length-part (134 * i) 134 s (omega (arith, sized))));
+          (fits-slotFrom (part (slotSize * i) slotSize s) (bytes-take slotSize (bytes-drop (slotSize * i) b))
+          (length-part (slotSize * i) slotSize s (omega (arith, sized))));
       last =
-          subst (λ k. fromLittleEndian (part 2144 4 s) < 256 ^ k) (length-part 2144 4 s (omega (arith, sized)))
-          (from-below (bytes-take 4 (bytes-drop 2144 b)));
+          subst (λ k. fromLittleEndian (part lastAt 4 s) < 256 ^ k) (length-part lastAt 4 s (omega (arith, sized)))
+          (from-below (bytes-take 4 (bytes-drop lastAt b)));
     }

@@ -1,4 +1,5 @@
 -- Bytes that are zero, read eight at a time. Assumes nothing.
+use Rattle.slots.specs.Sizes.{fieldSize}
 use mathlib.Core.Path.{_≡_, refl, sym, ap, ap₂, _∙_}
 use mathlib.Core.Bool.{Bool, true, false, _&&_, and-true}
 use mathlib.Core.List.{List, [], _∷_, reverse, reverse-cons}
@@ -84,10 +85,10 @@ module _ (at : ℕ) (s : List ℕ) where
 
 -- the two parts of a field, where it stands
 module _ (at : ℕ) (s : List ℕ) where
-  pub field-front : allZero (part at 32 s) ≡ allZero (take 32 (part at 55 s))
-  field-front = ap allZero (sym (take-take 32 55 (drop at s) (lit≤ tt)))
+  pub field-front : allZero (part at 32 s) ≡ allZero (take 32 (part at fieldSize s))
+  field-front = ap allZero (sym (take-take 32 fieldSize (drop at s) (lit≤ tt)))
 
-  pub field-rest : at + 55 ≤ length s → allZero (part (at + 32) 23 s) ≡ allZero (take 23 (drop 32 (part at 55 s)))
+  pub field-rest : at + fieldSize ≤ length s → allZero (part (at + 32) 23 s) ≡ allZero (take 23 (drop 32 (part at fieldSize s)))
   field-rest room =
       let front : length (part at 32 s) ≡ 32 = length-part at 32 s (omega arith) in
       let rest : length (part (at + 32) 23 s) ≡ 23 = length-part (at + 32) 23 s (omega arith) in

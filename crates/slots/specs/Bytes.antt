@@ -1,4 +1,5 @@
 -- A table in 2,148 bytes: its 16 slots, then the last serial in 4.
+use Rattle.slots.specs.Sizes.{slotSize, lastAt, tableSize}
 use Prim.Native.Nat.{ℕ, zero, suc}
 use mathlib.Core.List.{List, [], _∷_, _++_}
 use mathlib.Core.Bool.{Bool, _&&_}
@@ -20,11 +21,11 @@ tableBytes t = slotsBytes (t .slots) ++ littleEndian 4 (t .last)
 -- the first n slots
 unfoldable pub slotsFrom : (n : ℕ) → List ℕ → List Slot
 slotsFrom zero s = []
-slotsFrom (suc n) s = slotFrom (take 134 s) ∷ slotsFrom n (drop 134 s)
+slotsFrom (suc n) s = slotFrom (take slotSize s) ∷ slotsFrom n (drop slotSize s)
 
 unfoldable pub tableOf : List ℕ → Table
-tableOf s = record { slots = slotsFrom 16 s; last = fromLittleEndian (part 2144 4 s) }
+tableOf s = record { slots = slotsFrom 16 s; last = fromLittleEndian (part lastAt 4 s) }
 
 -- bytes of any other length are no table
 abbrev pub soundBytes : List ℕ → Bool
-soundBytes s = eqb (length s) 2148 && sound (tableOf s)
+soundBytes s = eqb (length s) tableSize && sound (tableOf s)

@@ -1,5 +1,6 @@
 -- The table's slots and its last serial. Definitions and proofs reach them through these alone, so that a change of the layout
 -- moves a handful of laws.
+use Rattle.slots.specs.Sizes.{fieldSize}
 use Prim.Native.Nat.{ℕ}
 use mathlib.Core.List.{List, []}
 use lib.ListN.{getD, set, replicate}
@@ -16,7 +17,7 @@ zeroSlot field =
     record { mechanism = 0; strength = 0; interval = 0; counter = 0; fresh = 0; serial = 0; first = field; second = field }
 
 abbrev pub freeSlot : Slot
-freeSlot = zeroSlot (replicate 55 0)
+freeSlot = zeroSlot (replicate fieldSize 0)
 
 -- what stands past the last slot: of no table that the code can hold
 abbrev pub noSlot : Slot

@@ -1,4 +1,5 @@
 -- One slot in 134 bytes: mechanism 1, strength 2, interval 8, counter 8, fresh 1, serial 4, first 55, second 55, with no gap.
+use Rattle.slots.specs.Sizes.{fieldSize, strengthAt, intervalAt, counterAt, freshAt, serialAt, firstAt, secondAt}
 use Prim.Native.Nat.{ℕ}
 use mathlib.Core.List.{List, [], _∷_, _++_}
 use lib.ListN.{getD}
@@ -20,11 +21,11 @@ unfoldable pub slotFrom : List ℕ → Slot
 slotFrom s =
     record {
       mechanism = getD s 0 0;
-      strength = fromLittleEndian (part 1 2 s);
-      interval = fromLittleEndian (part 3 8 s);
-      counter = fromLittleEndian (part 11 8 s);
-      fresh = getD s 19 0;
-      serial = fromLittleEndian (part 20 4 s);
-      first = part 24 55 s;
-      second = part 79 55 s;
+      strength = fromLittleEndian (part strengthAt 2 s);
+      interval = fromLittleEndian (part intervalAt 8 s);
+      counter = fromLittleEndian (part counterAt 8 s);
+      fresh = getD s freshAt 0;
+      serial = fromLittleEndian (part serialAt 4 s);
+      first = part firstAt fieldSize s;
+      second = part secondAt fieldSize s;
     }

@@ -1,4 +1,5 @@
 -- Document 01, 'Sound table', a clause a line.
+use Rattle.slots.specs.Sizes.{fieldSize}
 use Prim.Native.Nat.{ℕ, zero, suc, _+_, _^_}
 use mathlib.Core.Bool.{Bool, true, _&&_, _||_}
 use mathlib.Core.List.{List, [], _∷_}
@@ -26,7 +27,7 @@ freeNumbers mechanism strength interval counter fresh serial =
     eqb serial 0
 
 abbrev pub freeField : List ℕ → Bool
-freeField field = eqb (length field) 55 && allZero field
+freeField field = eqb (length field) fieldSize && allZero field
 
 -- a used slot: mechanism 1 or 2, one of the four strengths, interval 1 to 2^48, counter 1 to interval + 1, a fresh right of yes
 -- or no, serial 1 to the last serial
@@ -41,7 +42,7 @@ usedNumbers mechanism strength interval counter fresh serial last =
 
 -- and fields of 55 bytes: Hash_DRBG uses all, HMAC_DRBG the first 32, and the other 23 are zero
 abbrev pub usedField : (mechanism : ℕ) → List ℕ → Bool
-usedField mechanism field = eqb (length field) 55 && (eqb mechanism 2 || allZero (drop 32 field))
+usedField mechanism field = eqb (length field) fieldSize && (eqb mechanism 2 || allZero (drop 32 field))
 
 unfoldable pub freeSound : Slot → Bool
 freeSound s =

@@ -1,5 +1,6 @@
 // Where a handle leads, and the lowest free slot.
 use crate::layout;
+ghost use Rattle.slots.specs.Sizes.{tableSize};
 ghost use mathlib.Core.Path.{_≡_};
 ghost use Prim.Native.Nat.{_-_, _≤_, _<_};
 ghost use lib.ListN.{length};
@@ -13,7 +14,7 @@ pub enum Found {
 }
 
 pub fn look_up(table: &[u8], handle: u64) -> Found
-    requires { ⌜ length (now table) ≡ 2148 ⌝ }
+    requires { ⌜ length (now table) ≡ tableSize ⌝ }
     ensures { λ r. ⌜ r ≡ lookUp (tableOf (now (table .entry))) handle ⌝ }
 {
     let i = (handle % 16) as usize;
@@ -33,7 +34,7 @@ pub fn handle_of(serial: u32, i: usize) -> u64
 
 // The lowest free slot of those from `from` to `to`, or `to`.
 pub fn lowest_free(table: &[u8], from: usize, to: usize) -> usize
-    requires { ⌜ (length (now table) ≡ 2148) × (from ≤ to) × (to ≤ 16) ⌝ }
+    requires { ⌜ (length (now table) ≡ tableSize) × (from ≤ to) × (to ≤ 16) ⌝ }
     ensures { λ r. ⌜ r ≡ lowestFree (tableOf (now (table .entry))) from (to - from) ⌝ }
 {
     let mut i = from;

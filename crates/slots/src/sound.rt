@@ -1,6 +1,8 @@
 // Whether the bytes are a sound table. Bytes of any other length are none.
 use crate::layout;
 use crate::numbers;
+use crate::sizes;
+ghost use Rattle.slots.specs.Sizes.{slotSize, tableSize, fieldSize};
 ghost use mathlib.Core.Path.{_≡_};
 ghost use Prim.Native.Nat.{_+_, _≤_};
 ghost use lib.ListN.{length};
@@ -64,7 +66,7 @@ fn zero_at(s: &[u8], at: usize) -> bool
 
 // The first 32 bytes of the field at `at` are zero.
 fn front_is_zero(s: &[u8], at: usize) -> bool
-    requires { ⌜ at + 55 ≤ length (now s) ⌝ }
+    requires { ⌜ at + fieldSize ≤ length (now s) ⌝ }
     ensures { λ r. ⌜ r ≡ allZero (part at 32 (now (s .entry))) ⌝ }
 {
     zero_at(s, at) & zero_at(s, at + 8) & zero_at(s, at + 16) & zero_at(s, at + 24)
@@ -72,7 +74,7 @@ fn front_is_zero(s: &[u8], at: usize) -> bool
 
 // And the other 23: the last two of the three eights share a byte.
 fn rest_is_zero(s: &[u8], at: usize) -> bool
-    requires { ⌜ at + 55 ≤ length (now s) ⌝ }
+    requires { ⌜ at + fieldSize ≤ length (now s) ⌝ }
     ensures { λ r. ⌜ r ≡ allZero (part (at + 32) 23 (now (s .entry))) ⌝ }
 {
     zero_at(s, at + 32) & zero_at(s, at + 40) & zero_at(s, at + 47)
@@ -80,18 +82,18 @@ fn rest_is_zero(s: &[u8], at: usize) -> bool
 
 // One slot, in its 134 bytes. Of a used slot's fields only the bytes behind K and V are looked at, so that nothing hangs on a secret.
 fn slot_is_sound(s: &[u8], last: u32) -> bool
-    requires { ⌜ length (now s) ≡ 134 ⌝ }
+    requires { ⌜ length (now s) ≡ slotSize ⌝ }
     ensures { λ r. ⌜ r ≡ soundSlot last (slotFrom (now (s .entry))) ⌝ }
 {
     let mechanism = s[0];
-    let strength = numbers::u16_at(s, 1);
-    let interval = numbers::u64_at(s, 3);
-    let counter = numbers::u64_at(s, 11);
-    let fresh = s[19];
-    let serial = numbers::u32_at(s, 20);
-    let rest = rest_is_zero(s, 24) & rest_is_zero(s, 79);
+    let strength = numbers::u16_at(s, sizes::STRENGTH);
+    let interval = numbers::u64_at(s, sizes::INTERVAL);
+    let counter = numbers::u64_at(s, sizes::COUNTER);
+    let fresh = s[sizes::FRESH];
+    let serial = numbers::u32_at(s, sizes::SERIAL);
+    let rest = rest_is_zero(s, sizes::FIRST) & rest_is_zero(s, sizes::SECOND);
     if mechanism == 0 {
-        let front = front_is_zero(s, 24) & front_is_zero(s, 79);
+        let front = front_is_zero(s, sizes::FIRST) & front_is_zero(s, sizes::SECOND);
         return free_numbers(mechanism, strength, interval, counter, fresh, serial)
             & front
             & rest;
@@ -102,14 +104,14 @@ fn slot_is_sound(s: &[u8], last: u32) -> bool
 
 // All 16 slots, read where they stand. No early exits: their tests are joined.
 fn all_sound(table: &[u8]) -> bool
-    requires { ⌜ length (now table) ≡ 2148 ⌝ }
+    requires { ⌜ length (now table) ≡ tableSize ⌝ }
     ensures { λ r. ⌜ r ≡ sound (tableOf (now (table .entry))) ⌝ }
 {
     let last = layout::last_serial(table);
     let mut all = true;
     for i in 0..16 {
-        let at = 134 * i;
-        let end = at + 134;
+        let at = sizes::SLOT * i;
+        let end = at + sizes::SLOT;
         all = all & slot_is_sound(&table[at..end], last);
     }
     all
@@ -118,7 +120,7 @@ fn all_sound(table: &[u8]) -> bool
 pub fn is_sound(table: &[u8]) -> bool
     ensures { λ r. ⌜ r ≡ soundBytes (now (table .entry)) ⌝ }
 {
-    if table.len() != 2148 {
+    if table.len() != sizes::TABLE {
         return false;
     }
     all_sound(table)

@@ -1,4 +1,5 @@
 -- How a call on bytes comes out, by what it found: bytes that are no sound table, a reason, or none. Assumes nothing.
+use Rattle.slots.specs.Sizes.{tableSize}
 use mathlib.Core.Path.{_≡_, refl, sym, ap, ap₂, _∙_}
 use mathlib.Core.Bool.{Bool, true, false, not, _&&_, cond}
 use mathlib.Core.List.{List}
@@ -23,13 +24,13 @@ use Rattle.table.proofs.Exits.{refused-call, served-call, first-unsound
 
 -- what the scan told
 pub record Whole (s : List ℕ) : Type 0 where
-  pub sized : length s ≡ 2148
+  pub sized : length s ≡ tableSize
   pub sound : true ≡ sound (tableOf s)
 
 pub whole : {s : List ℕ} {is : Bool} → is ≡ soundBytes s → not is ≡ false → Whole s
 whole {s} {is} said tested =
-    let parts = both (eqb (length s) 2148) (sound (tableOf s)) (sym said ∙ not-false is tested) in
-    record { sized = eqb-true (length s) 2148 (parts .0); sound = sym (parts .1) }
+    let parts = both (eqb (length s) tableSize) (sound (tableOf s)) (sym said ∙ not-false is tested) in
+    record { sized = eqb-true (length s) tableSize (parts .0); sound = sym (parts .1) }
 
 -- the bytes of a lent slice
 pub bytes-known : {s : List ℕ} → ((i : ℕ) → Fits w8 (getD s i 0)) → Bytes s
@@ -39,19 +40,19 @@ one-some : _≡_ {A = ℕ} 1 0 → ⊥
 one-some e = omega arith
 
 module _ (c : Call) (s : List ℕ) where
-  pub replied-on : length s ≡ 2148 → {r : Reply} → r ≡ reply (tableOf s) c → done r ≡ inBytes c s
+  pub replied-on : length s ≡ tableSize → {r : Reply} → r ≡ reply (tableOf s) c → done r ≡ inBytes c s
   unfolding inBytes
   replied-on sized given =
       ap done given ∙
       ap (λ b. cond b (done (reply (tableOf s) c)) (record { told = toldRefused 1; table = s; output = lent c }))
-      (sym (eq-eqb (length s) 2148 sized))
+      (sym (eq-eqb (length s) tableSize sized))
 
-  pub served-on : length s ≡ 2148 → {n : ℕ} → n ≡ firstOf (reasonsOf (tableOf s) c) → n ≡ 0 → {r : Reply} → r ≡ service (tableOf s) c
+  pub served-on : length s ≡ tableSize → {n : ℕ} → n ≡ firstOf (reasonsOf (tableOf s) c) → n ≡ 0 → {r : Reply} → r ≡ service (tableOf s) c
       → done r ≡ inBytes c s
   served-on sized first none given = replied-on sized (given ∙ served-call (tableOf s) c first none)
 
   module _ (b : Bytes s) where
-    pub refused-on : {n : ℕ} {r : Told} → r ≡ toldRefused n → length s ≡ 2148 → n ≡ firstOf (reasonsOf (tableOf s) c) → (n ≡ 0 → ⊥)
+    pub refused-on : {n : ℕ} {r : Told} → r ≡ toldRefused n → length s ≡ tableSize → n ≡ firstOf (reasonsOf (tableOf s) c) → (n ≡ 0 → ⊥)
         → record { told = r; table = s; output = lent c } ≡ inBytes c s
     refused-on told sized first some =
         ap₂ (λ r t. record { told = r; table = t; output = lent c }) told (sym (bytes-tableOf s b sized)) ∙
@@ -60,13 +61,13 @@ module _ (c : Call) (s : List ℕ) where
     pub unsound-on : {is : Bool} {r : Told} → r ≡ toldRefused 1 → is ≡ soundBytes s → not is ≡ true
         → record { told = r; table = s; output = lent c } ≡ inBytes c s
     unfolding inBytes
-    unsound-on {is} {r} told said tested = go (eqb (length s) 2148) refl
+    unsound-on {is} {r} told said tested = go (eqb (length s) tableSize) refl
       where
-        go : (long : Bool) → eqb (length s) 2148 ≡ long → record { told = r; table = s; output = lent c } ≡ inBytes c s
+        go : (long : Bool) → eqb (length s) tableSize ≡ long → record { told = r; table = s; output = lent c } ≡ inBytes c s
         go true long =
             let broken : sound (tableOf s) ≡ false =
             ap (λ b. b && sound (tableOf s)) (sym long) ∙ sym said ∙ not-true is tested in
-            refused-on told (eqb-true (length s) 2148 long) (first-unsound (tableOf s) c broken) one-some
+            refused-on told (eqb-true (length s) tableSize long) (first-unsound (tableOf s) c broken) one-some
         go false long =
             ap (λ r. record { told = r; table = s; output = lent c }) told ∙
             ap (λ b. cond b (done (reply (tableOf s) c)) (record { told = toldRefused 1; table = s; output = lent c })) (sym long)

@@ -3,6 +3,7 @@ use slots::layout;
 use drbg::generator::Generator;
 use drbg::generator::Served;
 use slots::slot::Slot;
+ghost use Rattle.slots.specs.Sizes.{tableSize};
 ghost use mathlib.Core.Path.{_≡_};
 ghost use mathlib.Core.List.{[]};
 ghost use Prim.Native.Nat.{_<_};
@@ -69,7 +70,7 @@ pub fn with_generator(s: Slot, g: Generator) -> Slot
 
 // The generator in slot i, which is s, has made its step.
 pub fn stepped(table: &mut [u8], i: usize, s: Slot, served: Served) -> Told
-    requires { ⌜ (length (now table) ≡ 2148) × (i < 16) × (s ≡ slotAt (tableOf (now table)) i) ⌝ }
+    requires { ⌜ (length (now table) ≡ tableSize) × (i < 16) × (s ≡ slotAt (tableOf (now table)) i) ⌝ }
     ensures { λ r. ⌜ record { told = r; table = now (table .exit); output = [] }
         ≡ done (record { answer = stepped (tableOf (now (table .entry))) i served; output = [] }) ⌝ }
 {

@@ -1,4 +1,5 @@
 -- Each turn leaves its place. Assumes nothing.
+use Rattle.slots.specs.Sizes.{tableSize}
 use Prim.Native.Nat.{ℕ, _-_, _≤_}
 use mathlib.Core.Path.{_≡_, sym, subst, _∙_}
 use native.Mathlib.Omega.{arith}
@@ -9,7 +10,7 @@ use Rattle.runner.proofs.run_book.Statement.{statement}
 use Rattle.runner.proofs.run_book.Tie as tie
 
 abbrev Inv-loop : tie.InvT-loop
-Inv-loop book table₀ out₀ text₀ at₀ table out text at = (length table ≡ 2148) × (length out ≡ 65536) × (length text ≡ 135252)
+Inv-loop book table₀ out₀ text₀ at₀ table out text at = (length table ≡ tableSize) × (length out ≡ 65536) × (length text ≡ 135252)
 
 abbrev μ-loop : tie.MeasureT-loop
 μ-loop book table₀ out₀ text₀ at₀ table out text at = length book - at

@@ -1,4 +1,5 @@
 -- Assumes nothing.
+use Rattle.slots.specs.Sizes.{fieldSize}
 use mathlib.Core.Path.{refl, _∙_}
 use native.Mathlib.Omega.{arith}
 use borrow.Author.Needs.{needs}
@@ -9,7 +10,7 @@ use Rattle.slots.proofs.slot.field_at.Tie as tie
 returns : tie.Need-returns
 returns c =
     let a = c .before .before .before .before .before .args in
-    c .before .copy .ensures ∙ part-copied _ (a .s .now) (a .at) 55 refl (omega arith)
+    c .before .copy .ensures ∙ part-copied _ (a .s .now) (a .at) fieldSize refl (omega arith)
 
 pub field-at-spec : {M : Type 1} → statement M
 field-at-spec =

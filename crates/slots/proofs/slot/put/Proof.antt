@@ -1,4 +1,5 @@
 -- Field after field, each behind the one before. Assumes nothing.
+use Rattle.slots.specs.Sizes.{fieldSize, slotSize}
 use mathlib.Core.Path.{refl}
 use mathlib.Core.List.{[], _∷_}
 use native.Mathlib.Omega.{arith}
@@ -22,15 +23,15 @@ returns c =
     let p1 = p2 .before .before .before .before in
     let a = p1 .before .before .before .before .before .args in
     let s = a .s in
-    let f0 : Front 134 0 [] (a .to .now) = record { is = refl; whole = p1 .before .before .before .before .before .pre } in
+    let f0 : Front slotSize 0 [] (a .to .now) = record { is = refl; whole = p1 .before .before .before .before .before .pre } in
     let f1 = front-more 1 (s .mechanism ∷ []) f0 (omega arith) refl (p1 .put-u8 .ensures) in
     let f2 = front-more 2 (littleEndian 2 (s .strength)) f1 (omega arith) (length-littleEndian 2 _) (p2 .put-u16 .ensures) in
     let f3 = front-more 8 (littleEndian 8 (s .interval)) f2 (omega arith) (length-littleEndian 8 _) (p3 .put-u64 .ensures) in
     let f4 = front-more 8 (littleEndian 8 (s .counter)) f3 (omega arith) (length-littleEndian 8 _) (p4 .put-u642 .ensures) in
     let f5 = front-more 1 (s .fresh ∷ []) f4 (omega arith) refl (p5 .put-u82 .ensures) in
     let f6 = front-more 4 (littleEndian 4 (s .serial)) f5 (omega arith) (length-littleEndian 4 _) (p6 .put-u32 .ensures) in
-    let f7 = front-more 55 (s .first) f6 (omega arith) (p7 .put-field .ensures .1) (p7 .put-field .ensures .0) in
-    front-all (front-more 55 (s .second) f7 (omega arith) (p8 .put-field2 .ensures .1) (p8 .put-field2 .ensures .0))
+    let f7 = front-more fieldSize (s .first) f6 (omega arith) (p7 .put-field .ensures .1) (p7 .put-field .ensures .0) in
+    front-all (front-more fieldSize (s .second) f7 (omega arith) (p8 .put-field2 .ensures .1) (p8 .put-field2 .ensures .0))
 
 pub put-spec : {M : Type 1} → statement M
 put-spec =

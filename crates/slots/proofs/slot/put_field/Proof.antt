@@ -1,3 +1,4 @@
+use Rattle.slots.specs.Sizes.{fieldSize}
 use mathlib.Core.Path.{_≡_, ap, _∙_}
 use native.Mathlib.Omega.{arith}
 use lib.ListN.{length}
@@ -25,7 +26,7 @@ same-length c = search needs
 returns : tie.Need-returns
 returns c =
     let a = c .before .before .before .before .before .before .args in
-    let sized : length (a .t3) ≡ 55 = omega arith in
+    let sized : length (a .t3) ≡ fieldSize = omega arith in
     (c .before .before .copy .ensures ∙ ap (paste (a .to .now) (a .at) (a .t3)) sized, sized)
 
 pub put-field-spec : {M : Type 1} → statement M

@@ -1,4 +1,5 @@
 -- The first i slots at each i. Assumes nothing.
+use Rattle.slots.specs.Sizes.{tableSize}
 use Prim.Native.Nat.{_-_, _≤_}
 use mathlib.Core.Path.{_≡_, refl, ap, _∙_}
 use mathlib.Core.Bool.{_&&_}
@@ -15,7 +16,7 @@ use Rattle.slots.proofs.sound.all_sound.Tie as tie
 
 abbrev Inv-loop : tie.InvT-loop
 Inv-loop table last all₀ i₀ all i =
-    (i ≤ 16) × (length table ≡ 2148) × (last ≡ lastSerial (tableOf table)) × (all ≡ soundSlots (tableOf table) i)
+    (i ≤ 16) × (length table ≡ tableSize) × (last ≡ lastSerial (tableOf table)) × (all ≡ soundSlots (tableOf table) i)
 
 abbrev μ-loop : tie.MeasureT-loop
 μ-loop table last all₀ i₀ all i = 16 - i
