@@ -136,6 +136,24 @@ after-in-bytes c s b sized =
     ap (λ (d : Done). tableOf (d .table)) (sym (replied-on c s sized refl)) ∙
     tableOf-bytes (after (tableOf s) c) (machine-after (tableOf s) c (machine-tableOf s b sized))
 
+-- a call by value: its answer is the reply to the table that went in
+abbrev pub repliedWith : Done → Reply
+repliedWith d =
+    record {
+      answer = record { number = d .told .number; table = tableOf (d .table); blocks = d .told .blocks; value = d .told .value };
+      output = d .output;
+    }
+
+pub by-value : (c : Call) (s : List ℕ) (d : Done) → Bytes s → length s ≡ tableSize → d ≡ inBytes c s → repliedWith d ≡ reply (tableOf s) c
+by-value c s d b sized is =
+    let t = tableOf s in
+    ap repliedWith (is ∙ sym (replied-on c s sized refl)) ∙
+    ap (λ u. record {
+      answer = record { number = number t c; table = u; blocks = reply t c .answer .blocks; value = reply t c .answer .value };
+      output = reply t c .output;
+    })
+    (tableOf-bytes (after t c) (machine-after t c (machine-tableOf s b sized)))
+
 -- sequences: every theorem here on sequences from a fresh table speaks of the caller's own bytes, zeros at first
 all-in-bytes : (t : Table) (cs : List Call) → Machine t → inBytesAll (tableBytes t) cs ≡ map done (run t cs)
 all-in-bytes t [] m = refl

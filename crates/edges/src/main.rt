@@ -3,10 +3,11 @@
 use libc::STDOUT_FILENO;
 use sha256::running;
 use slots::layout;
-use slots::layout::Table;
+use slots::sizes;
 use slots::slot::Slot;
-use table::answers::Answer;
-use table::calls;
+use table::doors;
+use table::doors::Answer;
+use table::doors::Held;
 ghost use Prim.Native.Nat.{_≤_, _<_};
 
 fn wide(b: u8) -> u64 {
@@ -49,7 +50,35 @@ fn print_draw(name: &[u8], a: Answer, out: &[u8]) {
     print_text(b"\n");
 }
 
-fn open_with(t: Table, mechanism: u64, strength: u64, entropy: usize) -> Answer
+fn fresh_table() -> Held {
+    Held {
+        bytes: [0u8; sizes::TABLE],
+    }
+}
+
+// A table with another slot i.
+fn with_slot(t: Held, i: usize, s: Slot) -> Held
+    requires { ⌜ i < 16 ⌝ }
+{
+    let mut bytes = t.bytes;
+    layout::put_slot(&mut bytes, i, s);
+    Held { bytes }
+}
+
+fn with_last_serial(t: Held, last: u32) -> Held {
+    let mut bytes = t.bytes;
+    layout::put_last_serial(&mut bytes, last);
+    Held { bytes }
+}
+
+fn slot_at(t: Held, i: usize) -> Slot
+    requires { ⌜ i < 16 ⌝ }
+{
+    let bytes = t.bytes;
+    layout::slot_at(&bytes, i)
+}
+
+fn open_with(t: Held, mechanism: u64, strength: u64, entropy: usize) -> Answer
     requires { ⌜ entropy ≤ 32 ⌝ }
 {
     let lent = [170u8; 32];
@@ -57,24 +86,24 @@ fn open_with(t: Table, mechanism: u64, strength: u64, entropy: usize) -> Answer
     let all = &lent[..];
     let some = &all[..entropy];
     let none = &all[..0];
-    calls::open(t, mechanism, strength, 2, true, some, &nonce, none)
+    doors::open(t, mechanism, strength, 2, true, some, &nonce, none)
 }
 
 // Requests of 65,536 and 65,537, on each mechanism.
 fn requests(mechanism: u64) {
-    let t = open_with(layout::fresh_table(), mechanism, 128, 16).table;
+    let t = open_with(fresh_table(), mechanism, 128, 16).table;
     let mut most = [7u8; 65536];
     let none = [0u8; 1];
-    let a = calls::draw(t, 16, 128, &mut most, &none[..0]);
+    let a = doors::draw(t, 16, 128, &mut most, &none[..0]);
     print_draw(b"65536", a, &most);
     let mut more = [7u8; 65537];
-    let b = calls::draw(t, 16, 128, &mut more, &none[..0]);
+    let b = doors::draw(t, 16, 128, &mut more, &none[..0]);
     print_draw(b"65537", b, &more);
 }
 
 // A 17th opening.
 fn openings() {
-    let mut t = layout::fresh_table();
+    let mut t = fresh_table();
     for i in 0..17u64 {
         let a = open_with(t, 1 + i % 2, 0, 14);
         print_open(b"opening", a);
@@ -85,7 +114,7 @@ fn openings() {
 
 // The last serial at its largest, and one below.
 fn serials(last: u32) {
-    let t = layout::with_last_serial(layout::fresh_table(), last);
+    let t = with_last_serial(fresh_table(), last);
     print_open(b"serial", open_with(t, 2, 112, 14));
 }
 
@@ -118,19 +147,19 @@ fn spoiled(k: usize, s: Slot) -> Slot {
 }
 
 // The six calls on one table, and the lent output after both draws.
-fn six_calls(t: Table) {
+fn six_calls(t: Held) {
     let lent = [51u8; 16];
     let all = &lent[..];
     let none = &all[..0];
     let mut out = [7u8; 16];
     print_open(b"open", open_with(t, 1, 128, 16));
-    print_open(b"reseed", calls::reseed(t, 16, all, none));
-    let a = calls::draw(t, 16, 0, &mut out, none);
+    print_open(b"reseed", doors::reseed(t, 16, all, none));
+    let a = doors::draw(t, 16, 0, &mut out, none);
     print_draw(b"draw", a, &out);
-    let b = calls::fresh_draw(t, 16, 0, &mut out, all, none);
+    let b = doors::fresh_draw(t, 16, 0, &mut out, all, none);
     print_draw(b"fresh-draw", b, &out);
-    print_open(b"close", calls::close(t, 16));
-    print_open(b"inquire", calls::inquire(t, 16));
+    print_open(b"close", doors::close(t, 16));
+    print_open(b"inquire", doors::inquire(t, 16));
 }
 
 fn place(k: usize) -> usize
@@ -140,16 +169,16 @@ fn place(k: usize) -> usize
 }
 
 fn unsound(k: usize) {
-    let t = open_with(layout::fresh_table(), 1, 128, 16).table;
+    let t = open_with(fresh_table(), 1, 128, 16).table;
     let i = place(k);
-    six_calls(layout::with_slot(t, i, spoiled(k, layout::slot_at(t, i))));
+    six_calls(with_slot(t, i, spoiled(k, slot_at(t, i))));
 }
 
 fn main() {
     requests(1);
     requests(2);
-    print_open(b"31", open_with(layout::fresh_table(), 1, 256, 31));
-    print_open(b"32", open_with(layout::fresh_table(), 1, 256, 32));
+    print_open(b"31", open_with(fresh_table(), 1, 256, 31));
+    print_open(b"32", open_with(fresh_table(), 1, 256, 32));
     openings();
     serials(4294967294);
     serials(4294967295);

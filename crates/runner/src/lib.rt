@@ -1,6 +1,5 @@
 // Runs a call book from a fresh table: a line for each record. All but the writing itself is promised by what a run prints
 // (specs/Run.antt).
-use slots::sizes;
 use book::line;
 use book::record;
 use book::record::Record;
@@ -8,6 +7,7 @@ use book::record::RecordAt;
 use book::string;
 use book::string::Part;
 use libc::STDOUT_FILENO;
+use slots::sizes;
 use table::answers::Told;
 use table::calls;
 ghost use mathlib.Core.Path.{_≡_};

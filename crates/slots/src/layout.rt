@@ -35,6 +35,13 @@ pub fn last_serial(table: &[u8]) -> u32
     numbers::u32_at(table, sizes::LAST)
 }
 
+pub fn put_last_serial(table: &mut [u8], serial: u32)
+    requires { ⌜ length (now table) ≡ tableSize ⌝ }
+    ensures { λ _. ⌜ now (table .exit) ≡ tableBytes (withLastSerial (tableOf (now (table .entry))) serial) ⌝ }
+{
+    numbers::put_u32(table, sizes::LAST, serial);
+}
+
 // A new generator in slot i, with its serial as the last one.
 pub fn put_new_slot(table: &mut [u8], i: usize, serial: u32, s: Slot)
     requires { ⌜ (length (now table) ≡ tableSize) × (i < 16) ⌝ }

@@ -94,9 +94,7 @@ fn slot_is_sound(s: &[u8], last: u32) -> bool
     let rest = rest_is_zero(s, sizes::FIRST) & rest_is_zero(s, sizes::SECOND);
     if mechanism == 0 {
         let front = front_is_zero(s, sizes::FIRST) & front_is_zero(s, sizes::SECOND);
-        return free_numbers(mechanism, strength, interval, counter, fresh, serial)
-            & front
-            & rest;
+        return free_numbers(mechanism, strength, interval, counter, fresh, serial) & front & rest;
     }
     used_numbers(mechanism, strength, interval, counter, fresh, serial, last)
         & ((mechanism == 2) | rest)

@@ -1,7 +1,7 @@
 // What a call on bytes hands back beside the bytes.
-use slots::layout;
 use drbg::generator::Generator;
 use drbg::generator::Served;
+use slots::layout;
 use slots::slot::Slot;
 ghost use Rattle.slots.specs.Sizes.{tableSize};
 ghost use mathlib.Core.Path.{_≡_};

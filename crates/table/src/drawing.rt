@@ -1,13 +1,13 @@
 // SP 800-90A §9.3, without prediction resistance: a plain draw never reseeds.
 use crate::answers;
 use crate::answers::Told;
+use crate::answers::generator_of;
 use crate::reasons;
+use drbg::generator;
 use slots::handle;
+use slots::handle::Found;
 use slots::layout;
 use slots::sound;
-use drbg::generator;
-use slots::handle::Found;
-use crate::answers::generator_of;
 ghost use mathlib.Core.Path.{_≡_};
 ghost use Rattle.table.specs.Reasons.{firstOf};
 ghost use mathlib.Core.Bool.{true};

@@ -2,9 +2,9 @@
 use crate::answers;
 use crate::answers::Told;
 use slots::handle;
+use slots::handle::Found;
 use slots::layout;
 use slots::sound;
-use slots::handle::Found;
 ghost use mathlib.Core.Path.{_≡_};
 ghost use mathlib.Core.List.{[]};
 ghost use Rattle.table.specs.Calls.{inquires};

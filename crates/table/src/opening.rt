@@ -1,13 +1,13 @@
 // SP 800-90A §9.1: an opening takes the next serial and the lowest free slot.
 use crate::answers;
 use crate::answers::Told;
-use slots::handle;
-use slots::layout;
-use slots::sound;
-use drbg::generator;
-use slots::handle::handle_of;
 use crate::answers::new_slot;
 use crate::reasons;
+use drbg::generator;
+use slots::handle;
+use slots::handle::handle_of;
+use slots::layout;
+use slots::sound;
 ghost use mathlib.Core.Path.{_≡_};
 ghost use Rattle.table.specs.Reasons.{firstOf};
 ghost use mathlib.Core.List.{[]};
