@@ -2,7 +2,7 @@
 #include <stddef.h>
 #include <stdint.h>
 
-/* crates/bare: a slice is a pointer and a length */
+/* crates/bench_bare: a slice is a pointer and a length */
 uint32_t purangsa_bare(const uint8_t *text, size_t length);
 
 /* A source of draws. All of them are opened on the same entropy and nonce, with no personalization, so that all draw the
@@ -15,7 +15,7 @@ struct source {
 };
 
 extern const struct source library; /* ours, through the library: a full table of 16 generators */
-extern const struct source alone;   /* ours, the draw by itself: crates/draws, a generator's two fields, no table */
+extern const struct source alone;   /* ours, the draw by itself: crates/bench_draws, a generator's two fields, no table */
 extern const struct source portable, mbedtls, openssl;
 
 enum { ENTROPY = 32, NONCE = 16 };

@@ -42,7 +42,7 @@ static uint64_t library_draw(uint8_t *out, size_t length)
 
 const struct source library = { "library", library_open, library_draw, 65536 };
 
-/* crates/draws */
+/* crates/bench_draws */
 uint64_t purangsa_bench_open(uint8_t mechanism, const uint8_t *entropy, size_t entropy_length, const uint8_t *nonce,
                              size_t nonce_length, uint8_t *first, size_t first_length, uint8_t *second,
                              size_t second_length);

@@ -1,6 +1,6 @@
 """python3 bench/small_records.py PROGRAM BARE: the program on full books of small records, beside the hashing that they need.
 
-BARE is crates/bare as a shared library. The books have 65,536 bytes, an opening and then draws of 0 to 32 bytes, one
+BARE is crates/bench_bare as a shared library. The books have 65,536 bytes, an opening and then draws of 0 to 32 bytes, one
 book for each mechanism. A line is a row as those of bench.c, its length the book's records. The two sides take turns and
 the least time of each counts, as there. It is processor time, the system's part included, as a run is long enough to be
 interrupted by others; from the program's time that of an empty book is taken off, which is what starting a process takes.

@@ -1,6 +1,6 @@
 """python3 second/make_books.py [--check]: what the program `books` is run on.
 
-Writes crates/books/data/, the stored books, the spoiled ones (spoiled.py) in a folder of
+Writes crates/test_books/data/, the stored books, the spoiled ones (spoiled.py) in a folder of
 their own; args, their names; and stdout, what the program must print: each book's name and
 its lines, which are the second program's. --check writes nothing and compares all of it
 with what stands there.
@@ -17,7 +17,7 @@ from spoiled import spoiled_books
 from table import LONGEST_INTERVAL
 from writer import Writer, close, draw, filler, fresh_draw, inquire, opening, reseed
 
-CRATE = pathlib.Path(__file__).resolve().parent.parent / "crates" / "books"
+CRATE = pathlib.Path(__file__).resolve().parent.parent / "crates" / "test_books"
 BOTH = (HMAC_DRBG, HASH_DRBG)
 LEAST_ENTROPY = {112: 14, 128: 16, 192: 24, 256: 32}
 

@@ -1,6 +1,6 @@
 """make_edges.py [--check]: makes, or compares, what the test program `edges` must print.
 
-The same calls as crates/edges/src/main.rt makes, on the second program's table.
+The same calls as crates/test_edges/src/main.rt makes, on the second program's table.
 """
 
 import hashlib
@@ -11,7 +11,7 @@ from calls import close_call, draw_call, fresh_draw_call, inquire_call, open_cal
 from made_files import command
 from table import FRESH_TABLE, with_slot
 
-CRATE = pathlib.Path(__file__).resolve().parent.parent / "crates" / "edges"
+CRATE = pathlib.Path(__file__).resolve().parent.parent / "crates" / "test_edges"
 
 
 def answer(name, a):

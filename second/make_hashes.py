@@ -1,6 +1,6 @@
 """python3 second/make_hashes.py [--check]: what the program `hashes` is run on.
 
-Writes crates/hashes/data/, a file for each of NIST's short and long messages, named after
+Writes crates/test_hashes/data/, a file for each of NIST's short and long messages, named after
 its length in bits; args, their names; and stdout, what the program must print. The digests
 are NIST's own; the blocks are counted by padding. --check writes nothing and compares all
 of it with what stands there.
@@ -12,7 +12,7 @@ from hashing import blocks_of, padded
 from made_files import command
 from vectors import PUBLISHED, cases
 
-CRATE = pathlib.Path(__file__).resolve().parent.parent / "crates" / "hashes"
+CRATE = pathlib.Path(__file__).resolve().parent.parent / "crates" / "test_hashes"
 FILES = [("short", "sha2/SHA256ShortMsg.rsp"), ("long", "sha2/SHA256LongMsg.rsp")]
 SIZES = [0, 1, 63, 64, 65, 200]     # of the pieces; 0: the message as one string
 

@@ -1,11 +1,11 @@
 -- Each byte once. Assumes nothing.
-use Prim.Native.Nat.{_-_}
+use Prim.Native.Nat.{_-_, _≤_}
 use mathlib.Core.Path.{_≡_}
 use native.Mathlib.Omega.{arith}
 use lib.ListN.{length}
 use borrow.Author.Needs.{needs}
-use Rattle.edges.proofs.print_bytes.Statement.{statement}
-use Rattle.edges.proofs.print_bytes.Tie as tie
+use Rattle.test_hashes.proofs.print_bytes.Statement.{statement}
+use Rattle.test_hashes.proofs.print_bytes.Tie as tie
 
 abbrev Inv-loop : tie.InvT-loop
 Inv-loop bytes i₀ i = length bytes ≡ 32

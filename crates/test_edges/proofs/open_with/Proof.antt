@@ -4,8 +4,8 @@ use native.Mathlib.Omega.{arith}
 use lib.ListN.{replicate}
 use lib.Seq.{length-take-le}
 use borrow.Author.Needs.{needs}
-use Rattle.edges.proofs.open_with.Statement.{statement}
-use Rattle.edges.proofs.open_with.Tie as tie
+use Rattle.test_edges.proofs.open_with.Statement.{statement}
+use Rattle.test_edges.proofs.open_with.Tie as tie
 
 slice-aggregate-some : tie.Need-slice-aggregate-some
 slice-aggregate-some c = sym (length-take-le (c .before .before .args .entropy) (replicate 32 170) (omega arith))

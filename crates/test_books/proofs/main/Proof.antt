@@ -1,8 +1,8 @@
 -- Each argument once. Assumes nothing.
 use Prim.Native.Nat.{_-_}
 use borrow.Author.Needs.{needs}
-use Rattle.books.proofs.main.Statement.{statement}
-use Rattle.books.proofs.main.Tie as tie
+use Rattle.test_books.proofs.main.Statement.{statement}
+use Rattle.test_books.proofs.main.Tie as tie
 
 abbrev Inv-loop : tie.InvT-loop
 Inv-loop i₀ i-end i = Unit

@@ -3,8 +3,8 @@ use Prim.Native.Nat.{_-_, _≤_}
 use mathlib.Core.Path.{_≡_}
 use lib.ListN.{length}
 use borrow.Author.Needs.{needs}
-use Rattle.edges.proofs.openings.Statement.{statement}
-use Rattle.edges.proofs.openings.Tie as tie
+use Rattle.test_edges.proofs.openings.Statement.{statement}
+use Rattle.test_edges.proofs.openings.Tie as tie
 
 abbrev Inv-loop : tie.InvT-loop
 Inv-loop t₀ i₀ name t i = (i ≤ 17) × (length name ≡ 7)

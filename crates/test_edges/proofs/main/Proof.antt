@@ -1,8 +1,8 @@
 -- The loop counts. Assumes nothing.
 use Prim.Native.Nat.{_-_, _≤_}
 use borrow.Author.Needs.{needs}
-use Rattle.edges.proofs.main.Statement.{statement}
-use Rattle.edges.proofs.main.Tie as tie
+use Rattle.test_edges.proofs.main.Statement.{statement}
+use Rattle.test_edges.proofs.main.Tie as tie
 
 abbrev Inv-loop : tie.InvT-loop
 Inv-loop k₀ k = k ≤ 20

@@ -10,8 +10,8 @@ use Rattle.standard.proofs.Hash.{absorbed-more}
 use Rattle.sha256.specs.Values.{eightOf}
 use Rattle.sha256.proofs.Stores.{length-part}
 use borrow.Author.Needs.{needs}
-use Rattle.bare.proofs.purangsa_bare.Statement.{statement}
-use Rattle.bare.proofs.purangsa_bare.Tie as tie
+use Rattle.bench_bare.proofs.purangsa_bare.Statement.{statement}
+use Rattle.bench_bare.proofs.purangsa_bare.Tie as tie
 
 part : (text : List ℕ) (i : ℕ) → take (64 * i + 64 - 64 * i) (drop (64 * i) text) ≡ blockAt sha256 text i
 unfolding blockAt
