@@ -10,28 +10,25 @@ use lib.ListN.{length, length-append}
 use Rattle.standard.specs.State.{State}
 use Rattle.standard.specs.Sha256.{sha256}
 use Rattle.standard.proofs.Lengths.{counter-opening, counter-reseeding, counter-draw, counter-freshDraw}
-use Rattle.standard.proofs.Counts.{openCount, reseedCount, drawCount, freshDrawCount, opening-blocks, reseeding-blocks, draw-blocks}
-use Rattle.standard.proofs.Counts.{freshDraw-blocks}
+use Rattle.standard.specs.Blocks.{openCount, reseedCount, drawCount, freshDrawCount}
+use Rattle.standard.proofs.Counts.{opening-blocks, reseeding-blocks, draw-blocks, freshDraw-blocks}
 use Rattle.drbg.specs.Generator.{mechanismOf, standing, served, filled}
-use Rattle.slots.specs.Layout.{freeSlot, slotAt, withSlot, lastSerial, withLastSerial, freshTable}
+use Rattle.slots.specs.Layout.{freeSlot, slotAt, withSlot, lastSerial, withLastSerial, freshTable, Table}
 use Rattle.slots.specs.Sound.{sound}
 use Rattle.slots.specs.Handle.{handleOf, slotOf, names, lookUp, named, lowestFree}
 use Rattle.slots.specs.declared.slot.Slot.{Slot}
-use Rattle.slots.specs.Layout.{Table}
 use Rattle.slots.proofs.Slots.{slotAt-same, slotAt-other, lastSerial-withSlot}
 use Rattle.slots.proofs.Soundness.{sound-fresh, sound-has}
 use Rattle.slots.proofs.Handles.{named-is, slot-below, lowest-most}
-use Rattle.table.specs.Reasons.{Reasons, firstOf, rounded}
-use Rattle.table.specs.Answers.{Reply, decided, stepped, installed, withGenerator, newSlot, generatorOf}
+use Rattle.table.specs.Reasons.{Reasons, firstOf, rounded, NoneHolds}
+use Rattle.table.specs.Answers.{Reply, decided, stepped, installed, withGenerator, newSlot, generatorOf, Answer}
 use Rattle.table.specs.Served.{mechanismIn, stateIn}
-use Rattle.table.specs.Answers.{Answer}
-use Rattle.table.proofs.FirstReason.{numbered, NoneHolds, none-holds}
+use Rattle.table.proofs.FirstReason.{numbered, none-holds}
 use Rattle.table.proofs.Allowed.{may-open, may-reseed, may-draw, may-draw-fresh}
 use Rattle.demands.specs.Calls.{answer}
-use Rattle.table.specs.Calls.{Call, reply, reasonsOf}
+use Rattle.table.specs.Calls.{Call, reply, reasonsOf, refusal, service}
 use Rattle.demands.specs.Alike.{Alike, openings, reseedings, drawings, fresh-drawings, closings, inquiries, AllAlike, none, more}
 use Rattle.demands.specs.Alike.{SameNumbers, AlikeTables, Told, toldOf, told}
-use Rattle.table.specs.Calls.{refusal, service}
 use Rattle.demands.proofs.Outcome.{reply-decided, all-numbered}
 use Rattle.demands.proofs.Moves.{sound-after, counter-held, below-16}
 use Rattle.demands.proofs.Standard.{sized-by}

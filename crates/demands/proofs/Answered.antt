@@ -6,20 +6,13 @@ use Prim.Native.Nat.{ℕ, zero, suc}
 use native.Mathlib.Omega.{arith}
 use lib.Dec.{eqb, eqb·suc-zero}
 use Rattle.slots.specs.Layout.{Table}
-use Rattle.table.specs.Reasons.{Reasons, _when_else_, firstOf}
+use Rattle.table.specs.Reasons.{Reasons, _when_else_, firstOf, NoneHolds, First, this, later}
 use Rattle.table.specs.Answers.{Reply, decided, stepped, installed}
-use Rattle.table.specs.Calls.{openReasons}
-use Rattle.table.specs.Calls.{reseedReasons}
-use Rattle.table.specs.Calls.{drawReasons}
-use Rattle.table.specs.Calls.{freshDrawReasons}
-use Rattle.table.specs.Calls.{closeReasons}
-use Rattle.table.specs.Calls.{inquireReasons}
-use Rattle.table.proofs.FirstReason.{NoneHolds, First, this, later}
+use Rattle.table.specs.Calls.{openReasons, reseedReasons, drawReasons, freshDrawReasons, closeReasons, inquireReasons, refusal, service}
 use Rattle.table.proofs.Outcomes.{refusing, serving}
 use Rattle.demands.specs.Calls.{number, order}
 use Rattle.table.specs.Calls.{Call, opens, reseeds, draws, freshDraws, closes, inquires, reply, reasonsOf}
 use Rattle.demands.specs.Outcomes.{numbersOf}
-use Rattle.table.specs.Calls.{refusal, service}
 use Rattle.demands.specs.Handles.{Listed, here, there}
 use Rattle.demands.proofs.Outcome.{Outcome, outcome, reply-decided}
 

@@ -10,11 +10,11 @@ use native.Mathlib.Omega.{arith}
 use borrow.Author.Tests.{eqb-true, ne-eqb}
 use lib.Dec.{eqb, lit<}
 use lib.ListN.{length, replicate, length-set}
-use Rattle.standard.proofs.Strings.{Bytes, bytes-replicate}
-use Rattle.slots.specs.Layout.{freeSlot, slotAt, withSlot, lastSerial, withLastSerial, freshTable}
+use Rattle.standard.specs.Strings.{Bytes}
+use Rattle.standard.proofs.Strings.{bytes-replicate}
+use Rattle.slots.specs.Layout.{freeSlot, slotAt, withSlot, lastSerial, withLastSerial, freshTable, Table}
 use Rattle.slots.specs.Handle.{lowestFree}
 use Rattle.slots.specs.declared.slot.Slot.{Slot}
-use Rattle.slots.specs.Layout.{Table}
 use Rattle.slots.proofs.Flags.{either}
 use Rattle.slots.proofs.Slots.{slotAt-cases, lastSerial-withSlot, lastSerial-withLastSerial}
 use Rattle.slots.proofs.Soundness.{Used}
@@ -24,11 +24,11 @@ use Rattle.table.proofs.Allowed.{may-open}
 use Rattle.slots.specs.Bytes.{tableBytes, tableOf}
 use Rattle.table.specs.OnBytes.{Done, toldRefused, done, inBytes}
 use Rattle.slots.proofs.SlotBytes.{Fits}
-use Rattle.slots.proofs.TableBytes.{Machine, length-tableBytes, bytes-tableOf, tableOf-bytes, machine-tableOf, fresh-bytes}
+use Rattle.slots.specs.Machine.{Machine}
+use Rattle.slots.proofs.TableBytes.{length-tableBytes, bytes-tableOf, tableOf-bytes, machine-tableOf, fresh-bytes}
 use Rattle.table.proofs.OnBytes.{replied-on}
 use Rattle.demands.specs.Calls.{number, after, run}
 use Rattle.table.specs.Calls.{Call, opens, reseeds, draws, freshDraws, closes, inquires, reply, lent}
-use Rattle.table.specs.OnBytes.{inBytes}
 use Rattle.demands.specs.InBytes.{inBytesAll}
 use Rattle.demands.proofs.Outcome.{Outcome, outcome}
 use Rattle.demands.proofs.Answered.{refusal-keeps}

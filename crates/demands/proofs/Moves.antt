@@ -10,15 +10,15 @@ use lib.ListN.{length}
 use Rattle.standard.specs.State.{State}
 use Rattle.standard.specs.Sha256.{sha256}
 use Rattle.standard.specs.Functions.{Mechanism, HMAC-DRBG, Hash-DRBG}
-use Rattle.standard.proofs.Lengths.{Sized, stateBytes, sized-opening, sized-reseeding, sized-draw, sized-freshDraw}
+use Rattle.standard.specs.Lengths.{Sized, stateBytes}
+use Rattle.standard.proofs.Lengths.{sized-opening, sized-reseeding, sized-draw, sized-freshDraw}
 use Rattle.standard.proofs.Lengths.{counter-opening, counter-reseeding, counter-draw, counter-freshDraw}
 use Rattle.drbg.specs.Generator.{mechanismOf, stateOf, standing, served, filled}
 use Rattle.drbg.specs.declared.generator.Generator.{Generator}
-use Rattle.slots.specs.Layout.{freeSlot, withSlot, lastSerial, withLastSerial, freshTable}
+use Rattle.slots.specs.Layout.{freeSlot, withSlot, lastSerial, withLastSerial, freshTable, Table}
 use Rattle.slots.specs.Sound.{sound}
 use Rattle.slots.specs.Handle.{handleOf, slotOf, names, lookUp, named, lowestFree}
 use Rattle.slots.specs.declared.slot.Slot.{Slot}
-use Rattle.slots.specs.Layout.{Table}
 use Rattle.slots.proofs.Soundness.{Used, used-sound, free-sound, sound-fresh, sound-withSlot, sound-opened}
 use Rattle.slots.proofs.Handles.{named-is, sound-named, lowest-most}
 use Rattle.table.specs.Answers.{Reply, stepped, installed, withGenerator, generatorOf}

@@ -10,23 +10,22 @@ use lib.ListN.{length}
 use Rattle.standard.specs.State.{State}
 use Rattle.standard.specs.Sha256.{sha256}
 use Rattle.standard.specs.Functions.{Mechanism, opening, reseeding, draw, freshDraw}
-use Rattle.standard.proofs.Lengths.{Sized, stateBytes, sized-opening, sized-reseeding, sized-draw, sized-freshDraw}
+use Rattle.standard.specs.Lengths.{Sized, stateBytes}
+use Rattle.standard.proofs.Lengths.{sized-opening, sized-reseeding, sized-draw, sized-freshDraw}
 use Rattle.standard.proofs.Lengths.{counter-opening, counter-reseeding, counter-freshDraw}
 use Rattle.standard.proofs.Bound.{bounded}
 use Rattle.drbg.specs.Generator.{mechanismOf, standing, served, filled}
 use Rattle.drbg.proofs.Standing.{stateOf-standing}
-use Rattle.slots.specs.Layout.{slotAt, withSlot, lastSerial}
+use Rattle.slots.specs.Layout.{slotAt, withSlot, lastSerial, Table}
 use Rattle.slots.specs.Sound.{sound}
 use Rattle.slots.specs.Handle.{handleOf, slotOf, lookUp, named, lowestFree}
 use Rattle.slots.specs.declared.slot.Slot.{Slot}
-use Rattle.slots.specs.Layout.{Table}
 use Rattle.slots.proofs.Slots.{slotAt-same, slotAt-withLastSerial, lastSerial-withLastSerial}
 use Rattle.slots.proofs.Soundness.{sound-has}
 use Rattle.slots.proofs.Handles.{named-is, sound-named, slot-below, lowest-most, handle-slot}
 use Rattle.table.specs.Reasons.{rounded}
-use Rattle.table.specs.Answers.{Reply, stepped, installed, withGenerator, newSlot}
+use Rattle.table.specs.Answers.{Reply, stepped, installed, withGenerator, newSlot, Answer}
 use Rattle.table.specs.Served.{mechanismIn, stateIn}
-use Rattle.table.specs.Answers.{Answer}
 use Rattle.table.proofs.Outcomes.{refusing, serving}
 use Rattle.table.proofs.Standing.{sized-in}
 use Rattle.table.proofs.Allowed.{may-open, may-reseed, may-draw, may-draw-fresh}

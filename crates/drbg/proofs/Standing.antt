@@ -15,7 +15,8 @@ use Rattle.standard.specs.HashDrbg as Hash
 use Rattle.standard.specs.HmacDrbg.{Keyed, kept, update, taken, outputTurns, generate}
 use Rattle.standard.specs.Functions.{Mechanism, HMAC-DRBG, Hash-DRBG, reseeding, draw, freshDraw}
 use Rattle.standard.specs.Sha256.{sha256}
-use Rattle.standard.proofs.Lengths.{Sized, stateBytes, ready-update, sized-reseeding}
+use Rattle.standard.specs.Lengths.{Sized, stateBytes}
+use Rattle.standard.proofs.Lengths.{ready-update, sized-reseeding}
 use Rattle.standard.proofs.Bound.{bounded}
 use Rattle.drbg_hmac.specs.Keys.{ready, costing, keyed, updatedOf, outputOf, drawnOut}
 use Rattle.drbg_hash.specs.Seeds.{valueOf, stateWith}

@@ -2,7 +2,6 @@
 use drbg_hash::hash_df;
 use drbg_hash::hash_drbg;
 use drbg_hash::sums;
-use drbg_hmac::copies;
 use drbg_hmac::hmac_drbg;
 ghost use mathlib.Core.Path.{_≡_};
 ghost use mathlib.Core.List.{_++_};

@@ -1,7 +1,6 @@
 // SP 800-90A §10.1.1: Hash_DRBG over SHA-256.
 use crate::hash_df;
 use crate::sums;
-use drbg_hmac::copies;
 use drbg_hmac::joined;
 use drbg_hmac::output;
 use sha256::digest;

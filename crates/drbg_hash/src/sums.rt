@@ -1,6 +1,5 @@
 // Sums of 440-bit numbers, big-endian, modulo 2^440: a number's 55 bytes and one byte behind them are seven limbs of eight bytes.
 // A limb comes and goes as an array of its own eight bytes, which makes it one load or one store. No carry is branched on.
-use drbg_hmac::copies;
 use std::num;
 ghost use mathlib.Core.Path.{_≡_};
 ghost use mathlib.Core.List.{[], _∷_, _++_};

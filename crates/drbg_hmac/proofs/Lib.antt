@@ -1,5 +1,4 @@
 -- What the proofs of several functions share.
-pub mod Pasted
 pub mod Pads
 pub mod Short
 pub mod Updates

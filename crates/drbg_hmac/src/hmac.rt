@@ -1,5 +1,4 @@
 // FIPS 198-1: HMAC under a key of 32 bytes.
-use crate::copies;
 use crate::joined;
 use sha256::digest;
 use sha256::rounds;

@@ -1,5 +1,4 @@
 // The lent output, filled in place one hash after the other.
-use crate::copies;
 use sha256::running;
 ghost use mathlib.Core.Path.{_≡_};
 ghost use Prim.Native.Nat.{_-_, _<_, min};

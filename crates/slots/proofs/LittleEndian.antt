@@ -7,9 +7,8 @@ use native.Mathlib.Numerals.{add-one}
 use native.Mathlib.Omega.{arith}
 use lib.ListN.{length, take, drop, getD, set, length-drop, length-append, length-reverse, drop-of-length-le}
 use lib.Seq.{take-add, drop-drop, drop-cons, length-take-le, take-all, sets-eq, paste, take-paste, drop-paste, length-paste}
-use Rattle.standard.specs.Strings.{numberOf, bytesOf}
-use Rattle.standard.proofs.Strings.{Bytes, bytes-nil, bytes-append, bytes-cons, bytes-head}
-use Rattle.standard.proofs.Strings.{bytes-tail, length-bytesOf, bytesOf-add, bytesOf-mod}
+use Rattle.standard.specs.Strings.{numberOf, bytesOf, Bytes}
+use Rattle.standard.proofs.Strings.{bytes-nil, bytes-append, bytes-cons, bytes-head, bytes-tail, length-bytesOf, bytesOf-add, bytesOf-mod}
 use Rattle.standard.proofs.Strings.{numberOf-append, numberOf-lt, numberOf-bytesOf, bytesOf-numberOf}
 use Rattle.slots.specs.Numbers.{part, fromLittleEndian, littleEndian}
 

@@ -8,10 +8,12 @@ use native.Mathlib.Omega.{arith}
 use lib.Dec.{lit≤, lit<}
 use lib.ListN.{length, take, drop, getD, length-append}
 use lib.Seq.{take-add, take-take, take-all, take-at, drop-at, drop-cons, getD-take, getD-drop}
-use Rattle.standard.proofs.Strings.{Bytes, bytes-take, bytes-drop}
+use Rattle.standard.specs.Strings.{Bytes}
+use Rattle.standard.proofs.Strings.{bytes-take, bytes-drop}
 use Rattle.slots.specs.declared.slot.Slot.{Slot}
 use Rattle.slots.specs.Numbers.{part, fromLittleEndian, littleEndian}
 use Rattle.slots.specs.Slots.{slotBytes, slotFrom}
+use Rattle.slots.specs.Machine.{Fits}
 use Rattle.slots.proofs.LittleEndian.{length-littleEndian, from-littleEndian, littleEndian-from, length-part}
 
 -- from the bytes to the slot and back: field after field
@@ -37,15 +39,6 @@ module _ (p : List ℕ) (b : Bytes p) (sized : length p ≡ slotSize) where
       let f7 = take-more firstAt fieldSize _ f6 refl in
       let f8 = take-more secondAt fieldSize _ f7 refl in
       sym f8 ∙ take-all slotSize p (le-of-eq sized)
-
--- a slot of machine numbers
-pub record Fits (s : Slot) : Type 0 where
-  pub strength : s .strength < 2 ^ 16
-  pub interval : s .interval < 2 ^ 64
-  pub counter : s .counter < 2 ^ 64
-  pub serial : s .serial < 2 ^ 32
-  pub first : length (s .first) ≡ fieldSize
-  pub second : length (s .second) ≡ fieldSize
 
 -- a front, and what stands behind it
 length-more : (a b : List ℕ) (m n : ℕ) → length a ≡ m → length b ≡ n → length (a ++ b) ≡ m + n

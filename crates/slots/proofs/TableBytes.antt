@@ -8,17 +8,17 @@ use native.Mathlib.Omega.{arith}
 use lib.Dec.{lit≤}
 use lib.ListN.{length, take, drop, getD, set, replicate, length-append, length-drop, take-append-drop, drop-of-length-le}
 use lib.Seq.{take-add, drop-drop, take-all, take-at, drop-at, length-take-le, paste}
-use Rattle.standard.specs.Strings.{numberOf}
-use Rattle.standard.proofs.Strings.{Bytes, bytes-take, bytes-drop}
-use Rattle.slots.specs.Layout.{noSlot, slotAt, withSlot, withLastSerial, freshTable}
+use Rattle.standard.specs.Strings.{numberOf, Bytes}
+use Rattle.standard.proofs.Strings.{bytes-take, bytes-drop}
+use Rattle.slots.specs.Layout.{noSlot, slotAt, withSlot, withLastSerial, freshTable, Table}
 use Rattle.slots.specs.declared.slot.Slot.{Slot}
-use Rattle.slots.specs.Layout.{Table}
 use Rattle.slots.specs.Numbers.{part, fromLittleEndian, littleEndian}
 use Rattle.slots.specs.Slots.{slotBytes, slotFrom}
+use Rattle.slots.specs.Machine.{Fits, Machine}
 use Rattle.slots.specs.Bytes.{slotsBytes, tableBytes, slotsFrom, tableOf}
 use Rattle.slots.proofs.LittleEndian.{length-littleEndian, from-below, from-littleEndian, littleEndian-from}
 use Rattle.slots.proofs.LittleEndian.{length-part, paste-whole}
-use Rattle.slots.proofs.SlotBytes.{bytes-slotFrom, Fits, length-slotBytes, slotFrom-bytes}
+use Rattle.slots.proofs.SlotBytes.{bytes-slotFrom, length-slotBytes, slotFrom-bytes}
 
 next : (n : ℕ) → slotSize + slotSize * n ≡ slotSize * suc n
 next n = omega arith
@@ -118,12 +118,6 @@ last-put u serial {e} {f} is sized put =
     (ap (take lastAt) is ∙ take-at (slotsBytes (u .slots)) (littleEndian 4 (u .last)) lastAt front)
     (drop-of-length-le e (le-of-eq sized)) ∙
     append-nil (slotsBytes (u .slots) ++ littleEndian 4 serial)
-
--- a table of machine values: 16 slots, numbers in their widths, fields of 55 bytes
-pub record Machine (t : Table) : Type 0 where
-  pub sixteen : length (t .slots) ≡ 16
-  pub fit : (i : ℕ) → i < 16 → Fits (slotAt t i)
-  pub last : t .last < 2 ^ 32
 
 pub slots-from : (slots : List Slot) (rest : List ℕ) → ((i : ℕ) → i < length slots → Fits (getD slots i noSlot))
     → slotsFrom (length slots) (slotsBytes slots ++ rest) ≡ slots

@@ -15,7 +15,8 @@ use Rattle.standard.specs.HashDrbg as HashDrbg
 use Rattle.standard.specs.HmacDrbg.{Keyed, kept, update, outputTurns}
 use Rattle.standard.specs.HmacDrbg as HmacDrbg
 use Rattle.standard.specs.Functions.{Mechanism, HMAC-DRBG, Hash-DRBG, opening, reseeding, draw, freshDraw}
-use Rattle.standard.proofs.Strings.{Bytes, bytes-nil, bytes-cons, bytes-append, bytes-take, bytes-drop, bytes-replicate, bytes-map}
+use Rattle.standard.specs.Strings.{Bytes}
+use Rattle.standard.proofs.Strings.{bytes-nil, bytes-cons, bytes-append, bytes-take, bytes-drop, bytes-replicate, bytes-map}
 use Rattle.standard.proofs.Strings.{bytes-bytesOf, cond-both, ifNull-both}
 use Rattle.standard.proofs.Lengths.{key-bytes}
 

@@ -10,9 +10,9 @@ use Rattle.standard.specs.Strings.{ceiling}
 use Rattle.standard.specs.State.{State}
 use Rattle.standard.specs.Sha256.{sha256}
 use Rattle.standard.specs.Functions.{Mechanism, HMAC-DRBG, Hash-DRBG, opening, reseeding, draw, freshDraw}
-use Rattle.standard.proofs.Lengths.{Sized, stateBytes}
-use Rattle.standard.proofs.Counts.{updateCount, openCount, reseedCount, drawCount, opening-blocks, reseeding-blocks, draw-blocks}
-use Rattle.standard.proofs.Counts.{freshDraw-blocks}
+use Rattle.standard.specs.Lengths.{Sized, stateBytes}
+use Rattle.standard.specs.Blocks.{updateCount, openCount, reseedCount, drawCount}
+use Rattle.standard.proofs.Counts.{opening-blocks, reseeding-blocks, draw-blocks, freshDraw-blocks}
 
 update-bound : (d : ℕ) → d ≤ 2048 → updateCount sha256 d ≤ 80
 update-bound zero h = omega arith

@@ -3,8 +3,7 @@
 use mathlib.Core.Path.{_≡_, refl, sym, ap, ap₂, _∙_}
 use mathlib.Core.List.{List, [], _∷_, _++_}
 use Prim.Native.Nat.{ℕ, zero, suc, _+_, _*_, _/_, _≤_, _<_}
-use native.Mathlib.Nat.{suc-mul, zero-mul, not-suc-le-zero, zero-div, mul-suc, add-zero, zero-add, add-assoc, div-eq-of-lt}
-use native.Mathlib.Nat.{add-div-left}
+use native.Mathlib.Nat.{suc-mul, zero-mul, not-suc-le-zero, zero-div, mul-suc, add-zero, zero-add, add-assoc, div-eq-of-lt, add-div-left}
 use native.Mathlib.Numerals.{add-one}
 use native.Mathlib.Omega.{arith}
 use borrow.Author.Tests.{le-leb}
@@ -24,36 +23,10 @@ use Rattle.standard.specs.HmacDrbg as HmacDrbg
 use Rattle.standard.specs.Functions.{Mechanism, HMAC-DRBG, Hash-DRBG, opening, reseeding, draw, freshDraw}
 use Rattle.standard.proofs.Strings.{length-bytesOf, ceiling-unique}
 use Rattle.standard.proofs.Lengths.{blocks-padded, length-K₀, length-xored, length-hash, length-hmac, length-K₀-rekey}
-use Rattle.standard.proofs.Lengths.{length-data-hashgenTurns, length-V-outputTurns, length-hashDf, length-refreshed, Ready}
-use Rattle.standard.proofs.Lengths.{Sized, ready-key, ready-taken, ready-update, stateBytes, sized-reseeding}
-
--- the table itself: d bytes of seed material, a bytes of additional input, b bytes drawn
-abbrev pub hashCount : Hash → ℕ → ℕ
-hashCount H n = (n + lengthBytes H) / blockBytes H + 1
-
-abbrev pub hmacCount : Hash → ℕ → ℕ
-hmacCount H n = (n + lengthBytes H) / blockBytes H + 4
-
-abbrev pub updateCount : Hash → (d : ℕ) → ℕ
-updateCount H zero = 8
-updateCount H (suc d) = 2 * ((suc d + (10 * H .wordBytes + 1)) / blockBytes H) + 16
-
-abbrev pub openCount : Hash → Mechanism → (d : ℕ) → ℕ
-openCount H HMAC-DRBG d = updateCount H d
-openCount H Hash-DRBG d = 2 * ((d + (2 * H .wordBytes + 5)) / blockBytes H) + 6
-
-abbrev pub reseedCount : Hash → Mechanism → (d : ℕ) → ℕ
-reseedCount H HMAC-DRBG d = updateCount H d
-reseedCount H Hash-DRBG d = 2 * ((d + 5) / blockBytes H) + 8
-
-abbrev pub drawCount : Hash → Mechanism → (b a : ℕ) → ℕ
-drawCount H HMAC-DRBG b zero = 4 * ceiling b (outBytes H) + 8
-drawCount H HMAC-DRBG b (suc a) = 4 * ceiling b (outBytes H) + 4 * ((suc a + (10 * H .wordBytes + 1)) / blockBytes H) + 32
-drawCount H Hash-DRBG b zero = ceiling b (outBytes H) + 2
-drawCount H Hash-DRBG b (suc a) = ceiling b (outBytes H) + suc a / blockBytes H + 4
-
-abbrev pub freshDrawCount : Hash → Mechanism → (b d : ℕ) → ℕ
-freshDrawCount H mechanism b d = reseedCount H mechanism d + drawCount H mechanism b 0
+use Rattle.standard.specs.Lengths.{Ready, Sized, stateBytes}
+use Rattle.standard.proofs.Lengths.{length-data-hashgenTurns, length-V-outputTurns, length-hashDf, length-refreshed}
+use Rattle.standard.proofs.Lengths.{ready-key, ready-taken, ready-update, sized-reseeding}
+use Rattle.standard.specs.Blocks.{hashCount, hmacCount, updateCount, openCount, reseedCount, drawCount, freshDrawCount}
 
 pub absorbed-blocks : (H : Hash) (m : List ℕ) (n : ℕ) (s : Eight) → absorbed H m n s .blocks ≡ n
 unfolding absorbed

@@ -23,6 +23,7 @@ use Rattle.standard.specs.HmacDrbg.{Keyed, kept, update, taken, outputTu
 use Rattle.standard.specs.HmacDrbg as HmacDrbg
 use Rattle.standard.specs.Functions.{Mechanism, HMAC-DRBG, Hash-DRBG, opening, reseeding, draw, freshDraw}
 use Rattle.standard.proofs.Strings.{length-bytesOf, ceiling-add-one, add-mod-ceiling, le-ceiling, ifNull-both, cond-both}
+use Rattle.standard.specs.Lengths.{Ready, Sized, stateBytes}
 
 -- n bytes, a byte 80, the zeros and l bytes are whole blocks
 rounded : (n l : ℕ) {B : ℕ} → 0 < B → n + suc ((B - (n + 1 + l) % B) % B + l) ≡ ((n + l) / B + 1) * B
@@ -147,21 +148,6 @@ module _ (H : Hash) where
   unfolding outputTurns
   length-V-outputTurns K v zero h = h
   length-V-outputTurns K v (suc i) h = length-hmac K _
-
--- a key made ready and V, as every update leaves them
-pub record Ready (H : Hash) (u : Keyed) : Type 0 where
-  pub bytes : length (u .K .bytes) ≡ outBytes H
-  pub K₀ : length (u .K .K₀) ≡ blockBytes H
-  pub v : length (u .v) ≡ outBytes H
-
--- a state whose two fields have n bytes each
-pub record Sized (n : ℕ) (s : State) : Type 0 where
-  pub first : length (s .first) ≡ n
-  pub second : length (s .second) ≡ n
-
-abbrev pub stateBytes : Hash → Mechanism → ℕ
-stateBytes H HMAC-DRBG = outBytes H
-stateBytes H Hash-DRBG = seedBytes H
 
 module _ (H : Hash) where
   pub ready-rekey : (K : Key) (text v : List ℕ) → length v ≡ outBytes H → Ready H (record { K = rekey H K text .value; v = v })

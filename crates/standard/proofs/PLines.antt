@@ -12,9 +12,9 @@ use Rattle.standard.specs.State.{State}
 use Rattle.standard.specs.HashDrbg.{stepped}
 use Rattle.standard.specs.HmacDrbg.{Keyed, update}
 use Rattle.standard.specs.Functions.{Mechanism, HMAC-DRBG, Hash-DRBG, opening, draw}
-use Rattle.standard.proofs.Lengths.{Ready, Sized, stateBytes}
-use Rattle.standard.proofs.Counts.{hashCount, updateCount, openCount, drawCount, hash-blocks, update-blocks, opening-blocks}
-use Rattle.standard.proofs.Counts.{draw-blocks}
+use Rattle.standard.specs.Lengths.{Ready, Sized, stateBytes}
+use Rattle.standard.specs.Blocks.{hashCount, updateCount, openCount, drawCount}
+use Rattle.standard.proofs.Counts.{hash-blocks, update-blocks, opening-blocks, draw-blocks}
 
 -- what holds of each element of a list
 pub data All {A : Type 0} (P : A → Type 0) : List A → Type 0 where

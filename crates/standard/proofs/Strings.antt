@@ -15,11 +15,7 @@ use lib.Arith.{digits-lt, digits-div, mod-mul}
 use lib.Dec.{lit<}
 use lib.ListN.{length, getD, take, drop, replicate, length-append}
 use lib.Pow.{pow-add}
-use Rattle.standard.specs.Strings.{numberOf, bytesOf, ceiling, ifNull}
-
--- a string of bytes: every number in it is below 256, as 0 is beyond its end
-pub record Bytes (s : List ℕ) : Type 0 where
-  pub at : (i : ℕ) → getD s i 0 < 256
+use Rattle.standard.specs.Strings.{Bytes, numberOf, bytesOf, ceiling, ifNull}
 
 pub bytes-nil : Bytes []
 bytes-nil = record { at = λ i. lit< tt }

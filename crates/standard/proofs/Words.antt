@@ -9,7 +9,8 @@ use lib.ListN.{length, take, drop, length-take}
 use lib.Pow.{pow-pos, shr-le, ones-sub-lt}
 use Rattle.standard.specs.Words.{Amounts, SHR, ROTR, complement, Ch, Maj, Σ, σ}
 use Rattle.standard.specs.Hash.{Hash, wordBits, plus, wordAt, scheduleWord}
-use Rattle.standard.proofs.Strings.{Bytes, bytes-take, bytes-drop, numberOf-lt, pow-256, cond-both}
+use Rattle.standard.specs.Strings.{Bytes}
+use Rattle.standard.proofs.Strings.{bytes-take, bytes-drop, numberOf-lt, pow-256, cond-both}
 
 and-lt : (w x y : ℕ) → y < 2 ^ w → bitAnd x y < 2 ^ w
 and-lt w x y h = lt-of-le-of-lt (and-le-r x y) h

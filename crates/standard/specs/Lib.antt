@@ -10,3 +10,5 @@ pub mod State
 pub mod HashDrbg
 pub mod HmacDrbg
 pub mod Functions
+pub mod Lengths
+pub mod Blocks

@@ -1,8 +1,12 @@
 -- Strings of whole bytes, and numbers as strings: FIPS 180-4 §3.1, SP 800-90A §10.3 and appendix A of its notation.
--- Differs from the documents: a string is a list of bytes and not of bits; a byte is a number (below 256, a law in proofs/).
-use Prim.Native.Nat.{ℕ, zero, suc, _+_, _-_, _*_, _/_, _%_, _^_}
+-- Differs from the documents: a string is a list of bytes and not of bits; a byte is a number, and `Bytes` says that it is below 256.
+use Prim.Native.Nat.{ℕ, zero, suc, _+_, _-_, _*_, _/_, _%_, _^_, _<_}
 use mathlib.Core.List.{List, [], _∷_, _++_}
-use lib.ListN.{length}
+use lib.ListN.{length, getD}
+
+-- a string of bytes: every number in it is below 256, as 0 is beyond its end
+pub record Bytes (s : List ℕ) : Type 0 where
+  pub at : (i : ℕ) → getD s i 0 < 256
 
 -- the number that a string is, its first byte being the highest (FIPS 180-4 §3.1, 3 and 4)
 unfoldable pub numberOf : List ℕ → ℕ

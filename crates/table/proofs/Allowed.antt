@@ -5,14 +5,8 @@ use mathlib.Core.Logic.{_⊎_, inl, inr}
 use Prim.Native.Nat.{ℕ, _/_, _^_, _≤_}
 use borrow.Author.Tests.{ltb-false, eqb-true, eqb-false, not-false}
 use lib.Dec.{eqb, ltb}
-use Rattle.table.specs.Reasons.{outside, rounded}
-use Rattle.table.specs.Calls.{openReasons}
-use Rattle.table.specs.Calls.{reseedReasons}
-use Rattle.table.specs.Calls.{drawReasons}
-use Rattle.table.specs.Calls.{freshDrawReasons}
-use Rattle.table.specs.Calls.{closeReasons}
-use Rattle.table.specs.Calls.{inquireReasons}
-use Rattle.table.proofs.FirstReason.{NoneHolds}
+use Rattle.table.specs.Reasons.{outside, rounded, NoneHolds}
+use Rattle.table.specs.Calls.{openReasons, reseedReasons, drawReasons, freshDrawReasons, closeReasons, inquireReasons}
 
 one-or-two : (m : ℕ) → (not (eqb m 1) && not (eqb m 2)) ≡ false → (m ≡ 1) ⊎ (m ≡ 2)
 one-or-two m h = go (eqb m 1) (eqb m 2) refl refl h

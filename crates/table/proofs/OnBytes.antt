@@ -10,7 +10,7 @@ use lib.Dec.{eqb}
 use lib.ListN.{length, getD}
 use mir.Val.{Fits}
 use mir.Syntax.{w8}
-use Rattle.standard.proofs.Strings.{Bytes}
+use Rattle.standard.specs.Strings.{Bytes}
 use Rattle.slots.specs.Sound.{sound}
 use Rattle.slots.specs.Bytes.{tableOf, soundBytes}
 use Rattle.slots.proofs.Flags.{both}

@@ -6,18 +6,17 @@ use native.Mathlib.Omega.{arith}
 use borrow.Author.Tests.{not-true, not-false, eq-eqb, ne-eqb}
 use lib.Dec.{eqb, eqb·suc-zero}
 use Rattle.drbg.specs.declared.generator.Generator.{Generator}
-use Rattle.slots.specs.Layout.{lastSerial, slotAt}
+use Rattle.slots.specs.Layout.{lastSerial, slotAt, Table}
 use Rattle.slots.specs.Sound.{sound}
 use Rattle.slots.specs.Handle.{slotOf, lookUp, named}
 use Rattle.slots.specs.declared.slot.Slot.{Slot}
-use Rattle.slots.specs.Layout.{Table}
 use Rattle.slots.specs.declared.handle.Found.{Found}
 use Rattle.slots.specs.declared.handle.Found.the-variants.{At, Nothing}
 use Rattle.slots.proofs.Soundness.{Used}
 use Rattle.slots.proofs.Handles.{found-at, named-is, sound-named}
-use Rattle.table.specs.Reasons.{Reasons, firstOf}
+use Rattle.table.specs.Reasons.{Reasons, firstOf, NoneHolds, First}
 use Rattle.table.specs.Answers.{decided, generatorOf}
-use Rattle.table.proofs.FirstReason.{numbered, NoneHolds, none-holds, First, first-is}
+use Rattle.table.proofs.FirstReason.{numbered, none-holds, first-is}
 
 module _ {A : Type 0} (reasons : Reasons) (refusal : ℕ → A) (served : A) (n : ℕ) (first : n ≡ firstOf reasons) where
   pub refused-by : (n ≡ 0 → ⊥) → refusal n ≡ decided reasons refusal served

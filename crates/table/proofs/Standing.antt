@@ -14,14 +14,13 @@ use lib.Seq.{length-take-le, drop-at}
 use Rattle.standard.specs.State.{State}
 use Rattle.standard.specs.Sha256.{sha256}
 use Rattle.standard.specs.Functions.{Mechanism, HMAC-DRBG, Hash-DRBG}
-use Rattle.standard.proofs.Lengths.{Sized, stateBytes}
+use Rattle.standard.specs.Lengths.{Sized, stateBytes}
 use Rattle.drbg.specs.Generator.{mechanismOf, stateOf, field, standing}
 use Rattle.drbg.specs.declared.generator.Generator.{Generator}
-use Rattle.slots.specs.Layout.{freeSlot, withSlot, lastSerial, withLastSerial}
+use Rattle.slots.specs.Layout.{freeSlot, withSlot, lastSerial, withLastSerial, Table}
 use Rattle.slots.specs.Sound.{allZero, sound}
 use Rattle.slots.specs.Handle.{slotOf, names}
 use Rattle.slots.specs.declared.slot.Slot.{Slot}
-use Rattle.slots.specs.Layout.{Table}
 use Rattle.slots.proofs.Flags.{or-first, or-second}
 use Rattle.slots.proofs.Zeros.{all-zero-replicate}
 use Rattle.slots.proofs.Soundness.{Field, Used, used-sound, free-sound, sound-withSlot, sound-opened}

@@ -2,7 +2,7 @@
 use mathlib.Core.Path.{_∙_}
 use native.Mathlib.Omega.{arith}
 use lib.ListN.{replicate}
-use Rattle.drbg_hmac.proofs.Pasted.{pasted}
+use Rattle.copies.proofs.Pasted.{pasted}
 use borrow.Author.Needs.{needs}
 use Rattle.drbg.proofs.generator.field_of.Statement.{statement}
 use Rattle.drbg.proofs.generator.field_of.Tie as tie

@@ -3,7 +3,7 @@ use mathlib.Core.Path.{ap, _∙_}
 use mathlib.Core.List.{_∷_, append-nil}
 use native.Mathlib.Omega.{arith}
 use lib.ListN.{replicate}
-use Rattle.drbg_hmac.proofs.Pasted.{pasted}
+use Rattle.copies.proofs.Pasted.{pasted}
 use borrow.Author.Needs.{needs}
 use Rattle.drbg_hash.proofs.hash_df.led.Statement.{statement}
 use Rattle.drbg_hash.proofs.hash_df.led.Tie as tie

@@ -3,7 +3,7 @@ use mathlib.Core.Path.{refl, sym}
 use native.Mathlib.Omega.{arith}
 use lib.ListN.{replicate}
 use lib.Seq.{length-take-le}
-use Rattle.drbg_hmac.proofs.Pasted.{pasted-both}
+use Rattle.copies.proofs.Pasted.{pasted-both}
 use borrow.Author.Needs.{needs}
 use Rattle.drbg_hash.proofs.hash_df.leftmost.Statement.{statement}
 use Rattle.drbg_hash.proofs.hash_df.leftmost.Tie as tie

@@ -6,7 +6,7 @@ use native.Mathlib.Omega.{arith}
 use lib.ListN.{length, take, drop, replicate}
 use lib.Seq.{paste}
 use Rattle.sha256.proofs.Stores.{length-part}
-use Rattle.drbg_hmac.proofs.Pasted.{pasted}
+use Rattle.copies.proofs.Pasted.{pasted}
 use borrow.Author.Needs.{needs}
 use Rattle.drbg_hash.proofs.sums.eight_at.Statement.{statement}
 use Rattle.drbg_hash.proofs.sums.eight_at.Tie as tie

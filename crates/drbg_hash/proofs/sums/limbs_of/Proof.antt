@@ -8,7 +8,7 @@ use lib.ListN.{length, take, replicate, length-append}
 use lib.Seq.{take-all}
 use Rattle.drbg_hash.specs.Limbs.{stringOf}
 use Rattle.drbg_hash.proofs.Limbs.{limbs-read}
-use Rattle.drbg_hmac.proofs.Pasted.{pasted}
+use Rattle.copies.proofs.Pasted.{pasted}
 use borrow.Author.Needs.{needs}
 use Rattle.drbg_hash.proofs.sums.limbs_of.Statement.{statement}
 use Rattle.drbg_hash.proofs.sums.limbs_of.Tie as tie

@@ -7,7 +7,7 @@ use lib.ListN.{length, take, drop, replicate}
 use lib.Seq.{length-take-le, take-append-le}
 use Rattle.drbg_hash.specs.Limbs.{stringOf}
 use Rattle.drbg_hash.proofs.Limbs.{length-stringOf}
-use Rattle.drbg_hmac.proofs.Pasted.{pasted}
+use Rattle.copies.proofs.Pasted.{pasted}
 use borrow.Author.Needs.{needs}
 use Rattle.drbg_hash.proofs.sums.number_of.Statement.{statement}
 use Rattle.drbg_hash.proofs.sums.number_of.Tie as tie

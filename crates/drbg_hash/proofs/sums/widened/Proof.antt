@@ -6,7 +6,7 @@ use native.Mathlib.Omega.{arith}
 use lib.ListN.{length, take, replicate, drop-of-length-le}
 use Rattle.standard.specs.Strings.{numberOf}
 use Rattle.drbg_hash.proofs.Carries.{numberOf-widened}
-use Rattle.drbg_hmac.proofs.Pasted.{pasted}
+use Rattle.copies.proofs.Pasted.{pasted}
 use borrow.Author.Needs.{needs}
 use Rattle.drbg_hash.proofs.sums.widened.Statement.{statement}
 use Rattle.drbg_hash.proofs.sums.widened.Tie as tie

@@ -3,7 +3,7 @@ use mathlib.Core.Path.{_∙_}
 use native.Mathlib.Omega.{arith}
 use Rattle.standard.specs.Strings.{bytesOf}
 use Rattle.standard.specs.Hash.{padding, zeros}
-use Rattle.drbg_hmac.proofs.Pasted.{pasted}
+use Rattle.copies.proofs.Pasted.{pasted}
 use borrow.Author.Needs.{needs}
 use Rattle.drbg_hmac.proofs.hmac.last_block.Statement.{statement}
 use Rattle.drbg_hmac.proofs.hmac.last_block.Tie as tie

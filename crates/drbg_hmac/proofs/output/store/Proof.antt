@@ -2,7 +2,7 @@
 use mathlib.Core.Path.{sym, ap, _∙_}
 use native.Mathlib.Omega.{arith}
 use lib.Seq.{length-take-le, paste}
-use Rattle.drbg_hmac.proofs.Pasted.{pasted-part}
+use Rattle.copies.proofs.Pasted.{pasted-part}
 use borrow.Author.Needs.{needs}
 use Rattle.drbg_hmac.proofs.output.store.Statement.{statement}
 use Rattle.drbg_hmac.proofs.output.store.Tie as tie

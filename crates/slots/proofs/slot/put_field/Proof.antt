@@ -8,7 +8,7 @@ use Rattle.slots.proofs.slot.put_field.Statement.{statement}
 use Rattle.slots.proofs.slot.put_field.Tie as tie
 use Rattle.slots.proofs.slot.put_field.Reads as reads
 use Rattle.slots.proofs.slot.put_field.Lts as lts
-use Rattle.drbg_hmac.proofs.copies.copy.Reads as copy-reads
+use Rattle.copies.proofs.copy.Reads as copy-reads
 
 -- src/slot.rt:43:26
 slice-aggregate-copy : tie.Need-slice-aggregate-copy

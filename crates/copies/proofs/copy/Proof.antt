@@ -6,8 +6,8 @@ use native.Mathlib.Omega.{arith}
 use lib.ListN.{length, set, getD}
 use lib.Seq.{paste, paste-zero, paste-suc}
 use borrow.Author.Needs.{needs}
-use Rattle.drbg_hmac.proofs.copies.copy.Statement.{statement}
-use Rattle.drbg_hmac.proofs.copies.copy.Tie as tie
+use Rattle.copies.proofs.copy.Statement.{statement}
+use Rattle.copies.proofs.copy.Tie as tie
 
 abbrev Inv-loop : tie.InvT-loop
 Inv-loop to₀ at from i₀ i-end to i = (i ≤ i-end) × (i-end ≡ length from) × (length to ≡ length to₀) × (to ≡ paste to₀ at from i)

@@ -1,0 +1,2 @@
+-- Laws of copied strings.
+pub mod Pasted
