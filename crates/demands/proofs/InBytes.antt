@@ -23,8 +23,7 @@ use Rattle.table.proofs.Outcomes.{refusing, serving}
 use Rattle.table.proofs.Allowed.{may-open}
 use Rattle.slots.specs.Bytes.{tableBytes, tableOf}
 use Rattle.table.specs.OnBytes.{Done, toldRefused, done, inBytes}
-use Rattle.slots.proofs.SlotBytes.{Fits}
-use Rattle.slots.specs.Machine.{Machine}
+use Rattle.slots.specs.Machine.{Fits, Machine}
 use Rattle.slots.proofs.TableBytes.{length-tableBytes, bytes-tableOf, tableOf-bytes, machine-tableOf, fresh-bytes}
 use Rattle.table.proofs.OnBytes.{replied-on}
 use Rattle.demands.specs.Calls.{number, after, run}
