@@ -51,7 +51,7 @@ uint64_t purangsa_bench_draw(uint8_t mechanism, uint8_t *first, size_t first_len
 
 /* A generator as it stands in a slot. */
 static struct {
-    uint8_t mechanism, first[55], second[55];
+    uint8_t mechanism, first[PURANGSA_FIELD_LENGTH], second[PURANGSA_FIELD_LENGTH];
     uint64_t counter;
 } slot;
 

@@ -34,6 +34,8 @@ mod purangsa {
     }
 }
 
+/// PURANGSA_TABLE_LENGTH of include/purangsa.h.
+const TABLE_LENGTH: usize = 2148;
 const HMAC_DRBG: u64 = 1;
 const SERVED: u64 = 0;
 
@@ -52,7 +54,7 @@ struct Answer {
 }
 
 /// The table is the caller's. All bytes zero is the fresh table, with 16 free slots.
-struct Table([u8; 2148]);
+struct Table([u8; TABLE_LENGTH]);
 
 // Rust's references keep what a call asks of its pointers: they are valid for their lengths, and what is written overlaps nothing.
 impl Table {
@@ -113,7 +115,7 @@ fn draw_label(table: &mut Table, handle: u64) {
 }
 
 fn main() {
-    let mut table = Table([0; 2148]);
+    let mut table = Table([0; TABLE_LENGTH]);
 
     // Strength 128, at most 3 draws from one reseed to the next, no right to fresh draws.
     let opened = table.open(128, 3, ENTROPY, NONCE, PERSONALIZATION);

@@ -4,14 +4,8 @@
  *
  * The table is PURANGSA_TABLE_LENGTH bytes of the caller's, anywhere, in no alignment. All bytes zero is the fresh table. Whoever
  * keeps the bytes keeps the generators: they may be copied, stored and brought back, and they are as secret as what is drawn.
- * Slot i, of 0 to 15, begins at 134 * i; numbers stand with their lowest byte first, and there is no gap:
- *
- *     0  mechanism  1 byte: 0 free, 1 HMAC_DRBG, 2 Hash_DRBG      19  fresh    1 byte: 1 with the right to fresh draws
- *     1  strength   2 bytes                                       20  serial   4 bytes
- *     3  interval   8 bytes                                       24  first    55 bytes: K, or V
- *    11  counter    8 bytes                                       79  second   55 bytes: V, or C
- *
- * and at 2144 the last serial that was given, 4 bytes.
+ * PURANGSA_SLOTS slots stand one after the other, then the last serial that was given, 4 bytes. Numbers stand with their lowest byte
+ * first, and there is no gap. Where each part of a slot begins, and how long all of it is, is said below, once.
  *
  * Answers. Each function returns a number: 0 is served, and else it is the first of these that holds, in the function's own order:
  *
@@ -56,7 +50,22 @@
 extern "C" {
 #endif
 
-enum { PURANGSA_TABLE_LENGTH = 2148 };
+/* The table's bytes: lengths, and the place of each part of a slot, counted from the slot's first byte. */
+enum {
+    PURANGSA_SLOTS = 16,
+    PURANGSA_FIELD_LENGTH = 55,                                         /* HMAC_DRBG uses 32 of them, and the others are 0 */
+    PURANGSA_MECHANISM_AT = 0,                                          /* 1 byte: 0 free, 1 HMAC_DRBG, 2 Hash_DRBG */
+    PURANGSA_STRENGTH_AT = PURANGSA_MECHANISM_AT + 1,                   /* 2 bytes */
+    PURANGSA_INTERVAL_AT = PURANGSA_STRENGTH_AT + 2,                    /* 8 bytes */
+    PURANGSA_COUNTER_AT = PURANGSA_INTERVAL_AT + 8,                     /* 8 bytes */
+    PURANGSA_FRESH_AT = PURANGSA_COUNTER_AT + 8,                        /* 1 byte: 1 with the right to fresh draws */
+    PURANGSA_SERIAL_AT = PURANGSA_FRESH_AT + 1,                         /* 4 bytes */
+    PURANGSA_FIRST_AT = PURANGSA_SERIAL_AT + 4,                         /* a field: K, or V */
+    PURANGSA_SECOND_AT = PURANGSA_FIRST_AT + PURANGSA_FIELD_LENGTH,     /* a field: V, or C */
+    PURANGSA_SLOT_LENGTH = PURANGSA_SECOND_AT + PURANGSA_FIELD_LENGTH,
+    PURANGSA_LAST_SERIAL_AT = PURANGSA_SLOTS * PURANGSA_SLOT_LENGTH,    /* in the table */
+    PURANGSA_TABLE_LENGTH = PURANGSA_LAST_SERIAL_AT + 4
+};
 
 /* Opens a generator in the lowest free slot. mechanism: 1 or 2; strength is rounded up to 112, 128, 192 or 256; interval: the draws
  * between two reseeds; fresh: 0, or anything else for the right to fresh draws. Served, *value is the handle.

@@ -35,7 +35,7 @@ def lent_output(record):
 
 
 def expected(table, record, output):
-    """By the second program. A table of another length than 2,148 is answered 1."""
+    """By the second program. A table of another length is answered 1."""
     if len(table) != TABLE_BYTES:
         return Outcome(TABLE_UNSOUND, 0, 0, table, output)
     answer = performed(table_of(table), record, output)

@@ -1,11 +1,11 @@
-"""The table as it stands in a caller's 2,148 bytes: slot after slot, then the last serial, with no gap."""
+"""The table as it stands in a caller's bytes: slot after slot, then the last serial, with no gap."""
 
 import struct
 
-from table import SLOTS, Slot, Table
+from table import FIELD_BYTES, SLOTS, Slot, Table
 
 # mechanism, strength, interval, counter, fresh, serial, first, second; numbers little-endian
-SLOT = struct.Struct("<BHQQBI55s55s")
+SLOT = struct.Struct(f"<BHQQBI{FIELD_BYTES}s{FIELD_BYTES}s")
 LAST = struct.Struct("<I")
 TABLE_BYTES = SLOTS * SLOT.size + LAST.size
 
@@ -21,6 +21,6 @@ def table_bytes(table):
 
 
 def table_of(text):
-    """Of 2,148 bytes; any of them are a table, sound or not."""
+    """Of TABLE_BYTES bytes; any of them are a table, sound or not."""
     slots, last = text[:-LAST.size], text[-LAST.size:]
     return Table(tuple(Slot(*fields) for fields in SLOT.iter_unpack(slots)), *LAST.unpack(last))

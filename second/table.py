@@ -66,7 +66,7 @@ def used_slot_sound(slot, last):
 
 
 def field_sound(mechanism, field):
-    """55 bytes, of which those that the mechanism does not use are zero."""
+    """FIELD_BYTES bytes, of which those that the mechanism does not use are zero."""
     used = MECHANISMS[mechanism].STATE_BYTES
     return len(field) == FIELD_BYTES and field[used:] == bytes(FIELD_BYTES - used)
 
@@ -135,5 +135,5 @@ def with_state(slot, state):
 
 
 def field_of(text):
-    """The bytes in use, then zeros up to 55."""
+    """The bytes in use, then zeros up to FIELD_BYTES."""
     return text + bytes(FIELD_BYTES - len(text))

@@ -22,8 +22,6 @@
 #define LEAK 0
 #endif
 
-enum { SLOTS = 16, SLOT = 134, COUNTER = 11, FIRST = 24, SECOND = 79, FIELD = 55, LAST = SLOTS * SLOT, TABLE = LAST + 4 };
-_Static_assert((int)TABLE == (int)PURANGSA_TABLE_LENGTH, "the fields fill the table");
 enum { HMAC_DRBG = 1, HASH_DRBG = 2 };
 enum {
     SERVED = 0,
@@ -37,7 +35,7 @@ enum {
 };
 enum { MOST_STRING = 1024, MOST_OUTPUT = 65536, INTERVAL = 6, LEAST_STRENGTH = 112 };
 
-static uint8_t table[TABLE], output[MOST_OUTPUT + 1];
+static uint8_t table[PURANGSA_TABLE_LENGTH], output[MOST_OUTPUT + 1];
 static uint8_t entropy[MOST_STRING], nonce[64], personalization[512], additional[MOST_STRING + 1];
 static uint64_t blocks, value;
 static unsigned calls;
@@ -48,10 +46,10 @@ static void fail(const char *why)
     exit(1);
 }
 
-/* The bytes of a field that are secret: HMAC_DRBG uses 32 of the 55, and the others are public zeros. */
+/* The bytes of a field that are secret: HMAC_DRBG uses 32 of them, and the others are public zeros. */
 static size_t secret_bytes(const uint8_t *slot)
 {
-    return slot[0] == HMAC_DRBG ? 32 : slot[0] == HASH_DRBG ? FIELD : 0;
+    return slot[0] == HMAC_DRBG ? 32 : slot[0] == HASH_DRBG ? PURANGSA_FIELD_LENGTH : 0;
 }
 
 static void hide(void)
@@ -60,9 +58,9 @@ static void hide(void)
     VALGRIND_MAKE_MEM_UNDEFINED(nonce, sizeof nonce);
     VALGRIND_MAKE_MEM_UNDEFINED(personalization, sizeof personalization);
     VALGRIND_MAKE_MEM_UNDEFINED(additional, sizeof additional);
-    for (uint8_t *slot = table; slot < table + LAST; slot += SLOT) {
-        VALGRIND_MAKE_MEM_UNDEFINED(slot + FIRST, secret_bytes(slot));
-        VALGRIND_MAKE_MEM_UNDEFINED(slot + SECOND, secret_bytes(slot));
+    for (uint8_t *slot = table; slot < table + PURANGSA_LAST_SERIAL_AT; slot += PURANGSA_SLOT_LENGTH) {
+        VALGRIND_MAKE_MEM_UNDEFINED(slot + PURANGSA_FIRST_AT, secret_bytes(slot));
+        VALGRIND_MAKE_MEM_UNDEFINED(slot + PURANGSA_SECOND_AT, secret_bytes(slot));
     }
 }
 
@@ -88,15 +86,15 @@ static void look(uint64_t answer, uint64_t expected)
     seen((uint8_t *)&answer, sizeof answer);
     seen((uint8_t *)&blocks, sizeof blocks);
     seen((uint8_t *)&value, sizeof value);
-    for (uint8_t *slot = table; slot < table + LAST; slot += SLOT) {
+    for (uint8_t *slot = table; slot < table + PURANGSA_LAST_SERIAL_AT; slot += PURANGSA_SLOT_LENGTH) {
         size_t n = secret_bytes(slot);
-        seen(slot, FIRST);
-        hidden(slot + FIRST, n);
-        seen(slot + FIRST + n, FIELD - n);
-        hidden(slot + SECOND, n);
-        seen(slot + SECOND + n, FIELD - n);
+        seen(slot, PURANGSA_FIRST_AT);
+        hidden(slot + PURANGSA_FIRST_AT, n);
+        seen(slot + PURANGSA_FIRST_AT + n, PURANGSA_FIELD_LENGTH - n);
+        hidden(slot + PURANGSA_SECOND_AT, n);
+        seen(slot + PURANGSA_SECOND_AT + n, PURANGSA_FIELD_LENGTH - n);
     }
-    seen(table + LAST, TABLE - LAST);
+    seen(table + PURANGSA_LAST_SERIAL_AT, PURANGSA_TABLE_LENGTH - PURANGSA_LAST_SERIAL_AT);
     if (answer != expected)
         fail("the answer is not the expected one");
 }
@@ -134,7 +132,7 @@ static void draw(size_t t, uint64_t handle, size_t a, size_t length, uint64_t ex
 {
     hide();
 #if LEAK == 3
-    VALGRIND_MAKE_MEM_UNDEFINED(table + handle % SLOTS * SLOT + COUNTER, 8);
+    VALGRIND_MAKE_MEM_UNDEFINED(table + handle % PURANGSA_SLOTS * PURANGSA_SLOT_LENGTH + PURANGSA_COUNTER_AT, 8);
 #endif
     look(purangsa_draw(table, t, handle, LEAST_STRENGTH, additional, a, output, length, &blocks, &value), expected);
     if (expected == SERVED)
@@ -172,7 +170,7 @@ static uint64_t opened(size_t i)
     static const size_t nonces[] = { 8, 16, 64 }, personalizations[] = { 0, 1, 55, 512 };
     static const uint64_t strengths[] = { 0, 128, 192, 256 };
     size_t e = lengths[i / 2 % LENGTHS];
-    return open_as(TABLE, 1 + i % 2, e < 32 ? 0 : strengths[i / 2 % 4], e, nonces[i % 3], personalizations[i / 2 % 4], SERVED);
+    return open_as(PURANGSA_TABLE_LENGTH, 1 + i % 2, e < 32 ? 0 : strengths[i / 2 % 4], e, nonces[i % 3], personalizations[i / 2 % 4], SERVED);
 }
 
 /* All calls on a generator whose strings have the i-th lengths, and the requests in turn. */
@@ -180,32 +178,32 @@ static void live(uint64_t handle, size_t i)
 {
     size_t e = lengths[i / 2 % LENGTHS], a = lengths[(i + 4) % LENGTHS];
     for (size_t k = 0; k < REQUESTS; k++)
-        draw(TABLE, handle, k % 2 == 0 ? 0 : a, requests[k], SERVED);
-    draw(TABLE, handle, 0, 16, RESEED_DUE);
-    reseed(TABLE, handle, e, i % 4 < 2 ? a : 0, SERVED);
+        draw(PURANGSA_TABLE_LENGTH, handle, k % 2 == 0 ? 0 : a, requests[k], SERVED);
+    draw(PURANGSA_TABLE_LENGTH, handle, 0, 16, RESEED_DUE);
+    reseed(PURANGSA_TABLE_LENGTH, handle, e, i % 4 < 2 ? a : 0, SERVED);
     for (size_t k = 0; k < REQUESTS; k++)
-        fresh_draw(TABLE, handle, e, k % 2 == 0 ? a : 0, requests[k], SERVED);
+        fresh_draw(PURANGSA_TABLE_LENGTH, handle, e, k % 2 == 0 ? a : 0, requests[k], SERVED);
     if (i < 2)
-        draw(TABLE, handle, 0, MOST_OUTPUT, SERVED);
-    inquire(TABLE, handle, SERVED);
+        draw(PURANGSA_TABLE_LENGTH, handle, 0, MOST_OUTPUT, SERVED);
+    inquire(PURANGSA_TABLE_LENGTH, handle, SERVED);
 }
 
 static void refused(uint64_t handle)
 {
-    open_as(TABLE - 1, 1, 0, 32, 8, 0, UNSOUND);
-    open_as(TABLE, 3, 0, 32, 8, 0, BAD_MECHANISM);
-    open_as(TABLE, 1, 256, 32, 8, 0, NO_FREE_SLOT);
-    reseed(TABLE - 1, handle, 32, 0, UNSOUND);
-    reseed(TABLE, 0, 32, 0, NO_SUCH_GENERATOR);
-    reseed(TABLE, handle, 32, MOST_STRING + 1, ADDITIONAL_TOO_LONG);
-    draw(TABLE - 1, handle, 0, 16, UNSOUND);
-    draw(TABLE, handle, 0, MOST_OUTPUT + 1, REQUEST_TOO_LONG);
-    fresh_draw(TABLE - 1, handle, 32, 0, 16, UNSOUND);
-    fresh_draw(TABLE, 0, 32, 0, 16, NO_SUCH_GENERATOR);
-    fresh_draw(TABLE, handle, 32, 0, MOST_OUTPUT + 1, REQUEST_TOO_LONG);
-    close_as(TABLE - 1, handle, UNSOUND);
-    inquire(TABLE - 1, handle, UNSOUND);
-    inquire(TABLE, 0, NO_SUCH_GENERATOR);
+    open_as(PURANGSA_TABLE_LENGTH - 1, 1, 0, 32, 8, 0, UNSOUND);
+    open_as(PURANGSA_TABLE_LENGTH, 3, 0, 32, 8, 0, BAD_MECHANISM);
+    open_as(PURANGSA_TABLE_LENGTH, 1, 256, 32, 8, 0, NO_FREE_SLOT);
+    reseed(PURANGSA_TABLE_LENGTH - 1, handle, 32, 0, UNSOUND);
+    reseed(PURANGSA_TABLE_LENGTH, 0, 32, 0, NO_SUCH_GENERATOR);
+    reseed(PURANGSA_TABLE_LENGTH, handle, 32, MOST_STRING + 1, ADDITIONAL_TOO_LONG);
+    draw(PURANGSA_TABLE_LENGTH - 1, handle, 0, 16, UNSOUND);
+    draw(PURANGSA_TABLE_LENGTH, handle, 0, MOST_OUTPUT + 1, REQUEST_TOO_LONG);
+    fresh_draw(PURANGSA_TABLE_LENGTH - 1, handle, 32, 0, 16, UNSOUND);
+    fresh_draw(PURANGSA_TABLE_LENGTH, 0, 32, 0, 16, NO_SUCH_GENERATOR);
+    fresh_draw(PURANGSA_TABLE_LENGTH, handle, 32, 0, MOST_OUTPUT + 1, REQUEST_TOO_LONG);
+    close_as(PURANGSA_TABLE_LENGTH - 1, handle, UNSOUND);
+    inquire(PURANGSA_TABLE_LENGTH - 1, handle, UNSOUND);
+    inquire(PURANGSA_TABLE_LENGTH, 0, NO_SUCH_GENERATOR);
 }
 
 int main(void)
@@ -217,15 +215,15 @@ int main(void)
     memcpy(nonce, entropy, sizeof nonce);
     memcpy(personalization, entropy, sizeof personalization);
 
-    uint64_t handles[SLOTS];
-    for (size_t i = 0; i < SLOTS; i++)
+    uint64_t handles[PURANGSA_SLOTS];
+    for (size_t i = 0; i < PURANGSA_SLOTS; i++)
         handles[i] = opened(i);
-    for (size_t i = 0; i < SLOTS; i++)
+    for (size_t i = 0; i < PURANGSA_SLOTS; i++)
         live(handles[i], i);
     refused(handles[0]);
-    for (size_t i = 0; i < SLOTS; i++) {
-        close_as(TABLE, handles[i], SERVED);
-        draw(TABLE, handles[i], 0, 16, NO_SUCH_GENERATOR);
+    for (size_t i = 0; i < PURANGSA_SLOTS; i++) {
+        close_as(PURANGSA_TABLE_LENGTH, handles[i], SERVED);
+        draw(PURANGSA_TABLE_LENGTH, handles[i], 0, 16, NO_SUCH_GENERATOR);
     }
     printf("%u calls\n", calls);
     return 0;

@@ -3,7 +3,7 @@
 import unittest
 from dataclasses import replace
 
-from stored import TABLE_BYTES, table_bytes, table_of
+from stored import LAST, SLOT as SLOT_FIELDS, TABLE_BYTES, table_bytes, table_of
 from table import FRESH_TABLE, Slot, with_slot
 
 SLOT = Slot(
@@ -14,12 +14,12 @@ SLOT = Slot(
 class Stored(unittest.TestCase):
     def test_fresh(self):
         self.assertEqual(table_bytes(FRESH_TABLE), bytes(TABLE_BYTES))
-        self.assertEqual(TABLE_BYTES, 2148)
+        self.assertEqual((SLOT_FIELDS.size, LAST.size, TABLE_BYTES), (134, 4, 2148))
 
     def test_fields(self):
         text = table_bytes(replace(with_slot(FRESH_TABLE, 15, SLOT), last=0x191A1B1C))
-        slot = text[15 * 134:16 * 134]
-        self.assertEqual(text[:15 * 134], bytes(15 * 134))
+        before, slot, last = text[:15 * SLOT_FIELDS.size], text[15 * SLOT_FIELDS.size:-LAST.size], text[-LAST.size:]
+        self.assertEqual(before, bytes(15 * SLOT_FIELDS.size))
         self.assertEqual(slot[0:1], bytes([1]))
         self.assertEqual(slot[1:3], bytes([3, 2]))
         self.assertEqual(slot[3:11], bytes(range(0x0B, 0x03, -1)))
@@ -27,8 +27,8 @@ class Stored(unittest.TestCase):
         self.assertEqual(slot[19:20], bytes([0x14]))
         self.assertEqual(slot[20:24], bytes(range(0x18, 0x14, -1)))
         self.assertEqual(slot[24:79], SLOT.first)
-        self.assertEqual(slot[79:134], SLOT.second)
-        self.assertEqual(text[2144:], bytes(range(0x1C, 0x18, -1)))
+        self.assertEqual(slot[79:], SLOT.second)
+        self.assertEqual(last, bytes(range(0x1C, 0x18, -1)))
 
     def test_back(self):
         text = bytes(place * 7 % 256 for place in range(TABLE_BYTES))
