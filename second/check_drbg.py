@@ -116,6 +116,7 @@ def check_with(number):
 CHECKS = [
     ("drbg/no_reseed/HMAC_DRBG.rsp", check_with(HMAC_DRBG)),
     ("drbg/no_reseed/Hash_DRBG.rsp", check_with(HASH_DRBG)),
+    ("drbg/pr_false/HMAC_DRBG.rsp", check_with(HMAC_DRBG)),
     ("drbg/pr_false/Hash_DRBG.rsp", check_with(HASH_DRBG)),
     ("drbg/pr_true/HMAC_DRBG.rsp", check_with(HMAC_DRBG)),
     ("drbg/pr_true/Hash_DRBG.rsp", check_with(HASH_DRBG)),

@@ -3,7 +3,7 @@
 Runs the program on NIST's DRBG cases as books, on random books, on a stored book that comes
 in small pieces, and on a small stack. It must print what NIST published and what the second
 program prints, byte for byte. SEED repeats the random books of an earlier run. A book that
-fails is kept in target/failed/. (On the stored books the program `books` runs the same code.)
+fails is kept in target/failed/. (On the stored books the program `test_books` runs the same code.)
 """
 
 import random

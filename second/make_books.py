@@ -1,4 +1,4 @@
-"""python3 second/make_books.py [--check]: what the program `books` is run on.
+"""python3 second/make_books.py [--check]: what the program `test_books` is run on.
 
 Writes crates/test_books/data/, the stored books, the spoiled ones (spoiled.py) in a folder of
 their own; args, their names; and stdout, what the program must print: each book's name and

@@ -1,4 +1,4 @@
-"""make_edges.py [--check]: makes, or compares, what the test program `edges` must print.
+"""make_edges.py [--check]: makes, or compares, what the test program `test_edges` must print.
 
 The same calls as crates/test_edges/src/main.rt makes, on the second program's table.
 """

@@ -1,4 +1,4 @@
-"""python3 second/make_hashes.py [--check]: what the program `hashes` is run on.
+"""python3 second/make_hashes.py [--check]: what the program `test_hashes` is run on.
 
 Writes crates/test_hashes/data/, a file for each of NIST's short and long messages, named after
 its length in bits; args, their names; and stdout, what the program must print. The digests

@@ -2,7 +2,9 @@
 
     python3 second/text.py to-book < TEXT > BOOK
     python3 second/text.py to-text < BOOK > TEXT
-    python3 second/text.py explain < OUTPUT
+    python3 second/text.py explain [BOOK] < OUTPUT
+
+With the BOOK that was run, the words name the handle of each call too.
 
 The text has one call a line, every field by its name, and comments from '#' on:
 
@@ -159,38 +161,50 @@ def value_text(holds, value):
 
 # From output to words
 
-def explained(output):
-    """The lines of a run's output in words, one by one."""
+def explained(output, book=None):
+    """The lines of a run's output in words, one by one; with the book that was run, each with its call's handle."""
     lines = output.split("\n")
     if lines[-1] == "":
         lines.pop()
+    reader = None if book is None else Reader(book)
     ended = False
     for count, line in enumerate(lines, start=1):
         if ended:
             raise Unreadable(f"line {count}: nothing follows a 'book' line")
+        ended = line.startswith("book")
         try:
-            yield line_in_words(line)
+            yield line_in_words(line, None if reader is None or ended else reader.record())
+        except BadRecord:
+            raise Unreadable(f"line {count}: the book has no such record") from None
         except ValueError:
             raise Unreadable(f"line {count}: {line!r} is not a line of output") from None
-        ended = line.startswith("book")
+    if not (ended or reader is None or reader.at_end()):
+        raise Unreadable(f"line {len(lines) + 1}: the book has more records")
 
 
-def line_in_words(line):
-    """Raises ValueError if no run prints such a line."""
+def line_in_words(line, record=None):
+    """Raises ValueError if no run prints such a line, or none for this record."""
     words = line.split(" ")
     if words[0] == "book":
         _, place = words
         return f"the record at byte {number_of(place)} cannot be read; the run ended"
     kind, number, blocks, value = words
     kind, number, blocks = number_of(kind), number_of(number), number_of(blocks)
-    if kind not in NAMES or number not in WORDS:
+    if kind not in NAMES or number not in WORDS or (record is not None and record.kind != kind):
         raise ValueError
-    name = NAMES[kind].replace("-", " ")
+    call = call_in_words(kind, record)
     if number == SERVED:
-        return f"{name} served: {result_in_words(kind, value)}, {counted(blocks, 'block')}"
+        return f"{call}: served, {result_in_words(kind, value)}, {counted(blocks, 'block')}"
     if (blocks, value) != (0, "-"):
         raise ValueError
-    return f"{name} refused: {reason_in_words(kind, number)}"
+    return f"{call}: refused, {reason_in_words(kind, number)}"
+
+
+def call_in_words(kind, record):
+    name = NAMES[kind].replace("-", " ")
+    if record is None or "handle" not in record.fields:
+        return name
+    return f"{name} under handle {record.fields['handle']}"
 
 
 def reason_in_words(kind, number):
@@ -233,8 +247,11 @@ def to_text():
         print(line)
 
 
-def explain():
-    for line in explained(sys.stdin.buffer.read().decode("ascii", errors="replace")):
+def explain(book=None):
+    if book is not None:
+        with open(book, "rb") as file:
+            book = file.read()
+    for line in explained(sys.stdin.buffer.read().decode("ascii", errors="replace"), book):
         print(line)
 
 
@@ -242,12 +259,12 @@ COMMANDS = {"to-book": to_book, "to-text": to_text, "explain": explain}
 
 
 def main(arguments):
-    if len(arguments) != 1 or arguments[0] not in COMMANDS:
-        print("usage: text.py to-book | to-text | explain", file=sys.stderr)
+    if not (arguments[:1] == ["explain"] and len(arguments) == 2 or len(arguments) == 1 and arguments[0] in COMMANDS):
+        print("usage: text.py to-book | to-text | explain [BOOK]", file=sys.stderr)
         return 2
     try:
-        COMMANDS[arguments[0]]()
-    except Unreadable as reason:
+        COMMANDS[arguments[0]](*arguments[1:])
+    except (Unreadable, OSError) as reason:
         sys.stdout.flush()
         print(reason, file=sys.stderr)
         return 1

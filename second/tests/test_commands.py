@@ -31,7 +31,7 @@ class Commands(unittest.TestCase):
         self.assertEqual(status, 0)
         self.assertEqual(run("text.py", "to-book", given=text), (0, EXAMPLE_BOOK, b""))
         self.assertEqual(
-            run("text.py", "explain", given=b"3 12 0 -\n"), (0, b"draw refused: reseed due\n", b""))
+            run("text.py", "explain", given=b"3 12 0 -\n"), (0, b"draw: refused, reseed due\n", b""))
 
     def test_text_errors(self):
         self.assertEqual(

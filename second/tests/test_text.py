@@ -103,22 +103,36 @@ class Explain(unittest.TestCase):
     def test_example(self):
         output = "\n".join(EXAMPLE_LINES) + "\n"
         self.assertEqual(list(explained(output)), [
-            "open served: handle 16 (serial 1, slot 0), 18 blocks",
-            "draw served: no bytes, 8 blocks",
-            "draw refused: reseed due",
-            "inquire served: 0 draws left, 0 blocks",
-            "close served: slot freed, 0 blocks",
-            "close refused: no such generator",
+            "open: served, handle 16 (serial 1, slot 0), 18 blocks",
+            "draw: served, no bytes, 8 blocks",
+            "draw: refused, reseed due",
+            "inquire: served, 0 draws left, 0 blocks",
+            "close: served, slot freed, 0 blocks",
+            "close: refused, no such generator",
         ])
 
+    def test_with_the_book(self):
+        output = "\n".join(EXAMPLE_LINES) + "\n"
+        self.assertEqual(list(explained(output, EXAMPLE_BOOK)), [
+            "open: served, handle 16 (serial 1, slot 0), 18 blocks",
+            "draw under handle 16: served, no bytes, 8 blocks",
+            "draw under handle 16: refused, reseed due",
+            "inquire under handle 16: served, 0 draws left, 0 blocks",
+            "close under handle 16: served, slot freed, 0 blocks",
+            "close under handle 16: refused, no such generator",
+        ])
+        for wrong in (EXAMPLE_LINES[:-1], EXAMPLE_LINES + EXAMPLE_LINES[-1:], EXAMPLE_LINES[::-1]):
+            with self.assertRaises(Unreadable):
+                list(explained("\n".join(wrong), EXAMPLE_BOOK))
+
     def test_other_lines(self):
-        self.check("2 0 8 -", "reseed served: reseeded, 8 blocks")
-        self.check("3 0 12 ab", "draw served: 1 byte ab, 12 blocks")
-        self.check("4 0 28 abcd", "fresh draw served: 2 bytes abcd, 28 blocks")
-        self.check("4 0 24 -", "fresh draw served: no bytes, 24 blocks")
-        self.check("6 0 0 1", "inquire served: 1 draw left, 0 blocks")
-        self.check("1 4 0 -", "open refused: strength above 256")
-        self.check("4 4 0 -", "fresh draw refused: strength above the generator's own")
+        self.check("2 0 8 -", "reseed: served, reseeded, 8 blocks")
+        self.check("3 0 12 ab", "draw: served, 1 byte ab, 12 blocks")
+        self.check("4 0 28 abcd", "fresh draw: served, 2 bytes abcd, 28 blocks")
+        self.check("4 0 24 -", "fresh draw: served, no bytes, 24 blocks")
+        self.check("6 0 0 1", "inquire: served, 1 draw left, 0 blocks")
+        self.check("1 4 0 -", "open: refused, strength above 256")
+        self.check("4 4 0 -", "fresh draw: refused, strength above the generator's own")
         self.check("book 17", "the record at byte 17 cannot be read; the run ended")
         self.assertEqual(list(explained("")), [])
 
@@ -126,7 +140,7 @@ class Explain(unittest.TestCase):
         self.assertEqual(list(WORDS), list(range(15)))
         for number in range(1, 15):
             (words,) = explained(f"3 {number} 0 -\n")
-            self.assertTrue(words.startswith("draw refused: "))
+            self.assertTrue(words.startswith("draw: refused, "))
 
     def test_the_output_of_random_books_can_be_explained(self):
         source = random_source()
@@ -134,6 +148,7 @@ class Explain(unittest.TestCase):
             book = b"".join(record_bytes(random_record(source)) for _ in range(5))
             lines = list(lines_of(book + source.choice((b"", b"\x07"))))
             self.assertEqual(len(list(explained("\n".join(lines)))), len(lines))
+            self.assertEqual(len(list(explained("\n".join(lines), book))), len(lines))
 
     def test_errors_name_the_line(self):
         for line in (
