@@ -9,9 +9,9 @@ use Rattle.slots.specs.Layout.{Table}
 use Rattle.table.specs.Reasons.{Reasons, _when_else_, firstOf, NoneHolds, First, this, later}
 use Rattle.table.specs.Answers.{Reply, decided, stepped, installed}
 use Rattle.table.specs.Calls.{openReasons, reseedReasons, drawReasons, freshDrawReasons, closeReasons, inquireReasons, refusal, service}
+use Rattle.table.specs.Calls.{Call, opens, reseeds, draws, freshDraws, closes, inquires, reply, reasonsOf}
 use Rattle.table.proofs.Outcomes.{refusing, serving}
 use Rattle.demands.specs.Calls.{number, order}
-use Rattle.table.specs.Calls.{Call, opens, reseeds, draws, freshDraws, closes, inquires, reply, reasonsOf}
 use Rattle.demands.specs.Outcomes.{numbersOf}
 use Rattle.demands.specs.Handles.{Listed, here, there}
 use Rattle.demands.proofs.Outcome.{Outcome, outcome, reply-decided}

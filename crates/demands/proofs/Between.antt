@@ -8,15 +8,14 @@ use Prim.Native.Nat.{ℕ, _+_, _-_, _/_, _≤_}
 use native.Mathlib.Omega.{arith}
 use lib.Dec.{eqb}
 use Rattle.standard.specs.State.{State}
-use Rattle.slots.specs.Layout.{lastSerial, freshTable}
+use Rattle.slots.specs.Layout.{lastSerial, freshTable, Table}
 use Rattle.slots.specs.Handle.{inUse, slotOf, names, lowestFree}
 use Rattle.slots.specs.declared.slot.Slot.{Slot}
-use Rattle.slots.specs.Layout.{Table}
 use Rattle.slots.proofs.Handles.{named-is, names-used, names-serial, names-by, sound-named, lowest-most, handle-serial}
 use Rattle.table.specs.Answers.{Answer}
 use Rattle.table.proofs.Allowed.{may-open, may-reseed, may-draw-fresh}
-use Rattle.demands.specs.Calls.{answer, number, after, afterAll}
 use Rattle.table.specs.Calls.{Call, opens, reseeds, freshDraws}
+use Rattle.demands.specs.Calls.{answer, number, after, afterAll}
 use Rattle.demands.specs.Draws.{drawsServed, NoReseed}
 use Rattle.demands.specs.Outcomes.{Follows}
 use Rattle.demands.proofs.Answered.{served-none}

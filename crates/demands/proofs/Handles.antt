@@ -8,30 +8,22 @@ use Prim.Native.Nat.{ℕ, _+_, _/_, _%_, _≤_, _<_}
 use native.Mathlib.Nat.{le-refl}
 use native.Mathlib.Decide.{ℕ-discrete}
 use native.Mathlib.Omega.{arith}
-use Rattle.slots.specs.Layout.{freeSlot, slotAt, withSlot, lastSerial, freshTable}
+use Rattle.slots.specs.Layout.{freeSlot, slotAt, withSlot, lastSerial, freshTable, Table}
 use Rattle.slots.specs.Sound.{sound}
 use Rattle.slots.specs.Handle.{handleOf, inUse, slotOf, names, named, lowestFree}
 use Rattle.slots.specs.declared.slot.Slot.{Slot}
-use Rattle.slots.specs.Layout.{Table}
 use Rattle.slots.proofs.Slots.{slotAt-same, slotAt-other, lastSerial-withSlot, slotAt-withLastSerial, lastSerial-withLastSerial}
 use Rattle.slots.proofs.Soundness.{sound-has}
-use Rattle.slots.proofs.Handles.{named-is, names-used, names-serial, names-fresh, sound-named, slot-below, handle-serial}
-use Rattle.slots.proofs.Handles.{handle-parts}
+use Rattle.slots.proofs.Handles.{named-is, names-used, names-serial, names-fresh, sound-named, slot-below, handle-serial, handle-parts}
 use Rattle.table.specs.Reasons.{Reasons, _when_else_, firstOf}
 use Rattle.table.specs.Answers.{Reply}
-use Rattle.table.specs.Calls.{reseedReasons}
-use Rattle.table.specs.Calls.{drawReasons}
-use Rattle.table.specs.Calls.{freshDrawReasons}
-use Rattle.table.specs.Calls.{closeReasons}
-use Rattle.table.specs.Calls.{inquireReasons}
+use Rattle.table.specs.Calls.{reseedReasons, drawReasons, freshDrawReasons, closeReasons, inquireReasons, Call, closes, reasonsOf, Under}
+use Rattle.table.specs.Calls.{reseed, draw, fresh-draw, close, inquire, refusal, service}
 use Rattle.table.proofs.Outcomes.{refused-by}
 use Rattle.table.proofs.Allowed.{may-close}
 use Rattle.demands.specs.Calls.{answer, number, after, afterAll}
-use Rattle.table.specs.Calls.{Call, closes, reasonsOf}
 use Rattle.demands.specs.Handles.{issuedBy, issued, Listed, here, there, Distinct, Rising}
-use Rattle.table.specs.Calls.{Under, reseed, draw, fresh-draw, close, inquire}
 use Rattle.demands.specs.Handles as H
-use Rattle.table.specs.Calls.{refusal, service}
 use Rattle.demands.proofs.Outcome.{reply-decided}
 use Rattle.demands.proofs.Answered.{served-none}
 use Rattle.demands.proofs.Kept.{closing-frees}
@@ -192,7 +184,7 @@ serials-rise t (c ∷ cs) = rise (moved t c) (serials-rise (after t c) cs)
 lt-then : {a b c : ℕ} → a < b → b < c → a < c
 lt-then h l = omega arith
 
-above : {n h : ℕ} {hs : List ℕ} → Rising n hs → Listed h hs → n < h / 16
+pub above : {n h : ℕ} {hs : List ℕ} → Rising n hs → Listed h hs → n < h / 16
 above (H.more less r) here = less
 above (H.more less r) (there l) = lt-then less (above r l)
 

@@ -1,6 +1,5 @@
 -- The table in the caller's bytes: a refusal changes no byte of it or of the output, and a served call leaves the bytes of its table.
 -- So what is proved of calls on tables holds of the bytes. Assumes nothing.
-use Rattle.slots.specs.Sizes.{tableSize}
 use mathlib.Core.Path.{_≡_, refl, sym, ap, ap₂, subst, _∙_}
 use mathlib.Core.Bool.{Bool, true, false, _||_, cond}
 use mathlib.Core.Logic.{_⊎_, inl, inr, ⊎-elim}
@@ -12,26 +11,29 @@ use lib.Dec.{eqb, lit<}
 use lib.ListN.{length, replicate, length-set}
 use Rattle.standard.specs.Strings.{Bytes}
 use Rattle.standard.proofs.Strings.{bytes-replicate}
+use Rattle.slots.specs.Sizes.{tableSize}
 use Rattle.slots.specs.Layout.{freeSlot, slotAt, withSlot, lastSerial, withLastSerial, freshTable, Table}
 use Rattle.slots.specs.Handle.{lowestFree}
 use Rattle.slots.specs.declared.slot.Slot.{Slot}
 use Rattle.slots.proofs.Flags.{either}
 use Rattle.slots.proofs.Slots.{slotAt-cases, lastSerial-withSlot, lastSerial-withLastSerial}
 use Rattle.slots.proofs.Soundness.{Used}
+use Rattle.slots.specs.Bytes.{tableBytes, tableOf}
+use Rattle.slots.specs.Machine.{Fits, Machine}
+use Rattle.slots.proofs.TableBytes.{length-tableBytes, bytes-tableOf, tableOf-bytes, machine-tableOf, fresh-bytes}
 use Rattle.table.specs.Answers.{Reply, stepped, installed}
 use Rattle.table.proofs.Outcomes.{refusing, serving}
 use Rattle.table.proofs.Allowed.{may-open}
-use Rattle.slots.specs.Bytes.{tableBytes, tableOf}
 use Rattle.table.specs.OnBytes.{Done, toldRefused, done, inBytes}
-use Rattle.slots.specs.Machine.{Fits, Machine}
-use Rattle.slots.proofs.TableBytes.{length-tableBytes, bytes-tableOf, tableOf-bytes, machine-tableOf, fresh-bytes}
 use Rattle.table.proofs.OnBytes.{replied-on}
-use Rattle.demands.specs.Calls.{number, after, run}
 use Rattle.table.specs.Calls.{Call, opens, reseeds, draws, freshDraws, closes, inquires, reply, lent}
-use Rattle.demands.specs.InBytes.{inBytesAll}
+use Rattle.demands.specs.Calls.{number, after, run}
+use Rattle.demands.specs.Alike.{AllAlike, toldOf, told, toldInBytes}
+use Rattle.demands.specs.InBytes.{inBytesAll, repliedWith}
 use Rattle.demands.proofs.Outcome.{Outcome, outcome}
 use Rattle.demands.proofs.Answered.{refusal-keeps}
 use Rattle.demands.proofs.Moves.{Moves, stays, adds, steps, ends, moved}
+use Rattle.demands.proofs.Alike.{told-is, runs-from-fresh-alike}
 
 module _ (c : Call) (s : List ℕ) where
   -- bytes of any other length are answered 1, and nothing is changed
@@ -136,13 +138,6 @@ after-in-bytes c s b sized =
     tableOf-bytes (after (tableOf s) c) (machine-after (tableOf s) c (machine-tableOf s b sized))
 
 -- a call by value: its answer is the reply to the table that went in
-abbrev pub repliedWith : Done → Reply
-repliedWith d =
-    record {
-      answer = record { number = d .told .number; table = tableOf (d .table); blocks = d .told .blocks; value = d .told .value };
-      output = d .output;
-    }
-
 pub by-value : (c : Call) (s : List ℕ) (d : Done) → Bytes s → length s ≡ tableSize → d ≡ inBytes c s → repliedWith d ≡ reply (tableOf s) c
 by-value c s d b sized is =
     let t = tableOf s in
@@ -167,3 +162,20 @@ from-zeros cs =
     let zeros = bytes-replicate tableSize 0 (lit< tt) in
     ap (λ s. inBytesAll s cs) (sym (bytes-tableOf (replicate tableSize 0) zeros refl) ∙ ap tableBytes fresh-bytes) ∙
     all-in-bytes freshTable cs (subst Machine fresh-bytes (machine-tableOf (replicate tableSize 0) zeros refl))
+
+-- demand 3 of the caller's bytes: two sequences alike, on bytes that are zero at first, tell the same
+told-on : (d : Done) (r : Reply) → d ≡ done r → d .told ≡ toldOf (r .answer)
+told-on d r is =
+    let told = ap (λ (d : Done). d .told) is in
+    told-is (omega (arith, ap (λ x. x .number) told)) (omega (arith, ap (λ x. x .blocks) told)) (omega (arith, ap (λ x. x .value) told))
+
+tells : (rs : List Reply) → map (λ (d : Done). d .told) (map done rs) ≡ map (λ (r : Reply). toldOf (r .answer)) rs
+tells [] = refl
+tells (r ∷ rs) = ap₂ _∷_ (told-on (done r) r refl) (tells rs)
+
+told-from-zeros : (cs : List Call) → toldInBytes (replicate tableSize 0) cs ≡ told freshTable cs
+told-from-zeros cs = ap (map (λ (d : Done). d .told)) (from-zeros cs) ∙ tells (run freshTable cs)
+
+pub bytes-from-zeros-alike : {cs ds : List Call} → AllAlike cs ds
+    → toldInBytes (replicate tableSize 0) cs ≡ toldInBytes (replicate tableSize 0) ds
+bytes-from-zeros-alike {cs} {ds} alike = told-from-zeros cs ∙ runs-from-fresh-alike alike ∙ sym (told-from-zeros ds)

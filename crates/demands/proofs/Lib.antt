@@ -8,6 +8,9 @@ pub mod Handles
 pub mod Draws
 pub mod Standard
 pub mod Between
+pub mod Serials
+pub mod Blocks
 pub mod Alike
 pub mod InBytes
+pub mod KeptInBytes
 pub mod PLines

@@ -11,8 +11,8 @@ use Rattle.standard.specs.State.{State}
 use Rattle.standard.specs.Sha256.{sha256}
 use Rattle.standard.specs.Functions.{Mechanism, HMAC-DRBG, Hash-DRBG}
 use Rattle.standard.specs.Lengths.{Sized, stateBytes}
-use Rattle.standard.proofs.Lengths.{sized-opening, sized-reseeding, sized-draw, sized-freshDraw}
-use Rattle.standard.proofs.Lengths.{counter-opening, counter-reseeding, counter-draw, counter-freshDraw}
+use Rattle.standard.proofs.Lengths.{sized-opening, sized-reseeding, sized-draw, sized-freshDraw, counter-opening, counter-reseeding}
+use Rattle.standard.proofs.Lengths.{counter-draw, counter-freshDraw}
 use Rattle.drbg.specs.Generator.{mechanismOf, stateOf, standing, served, filled}
 use Rattle.drbg.specs.declared.generator.Generator.{Generator}
 use Rattle.slots.specs.Layout.{freeSlot, withSlot, lastSerial, withLastSerial, freshTable, Table}
@@ -26,8 +26,8 @@ use Rattle.table.specs.Served.{mechanismIn, stateIn}
 use Rattle.table.proofs.Outcomes.{refusing, serving}
 use Rattle.table.proofs.Standing.{used-standing, used-new, sized-in}
 use Rattle.table.proofs.Allowed.{may-open, may-reseed, may-draw, may-draw-fresh, may-close}
-use Rattle.demands.specs.Calls.{answer, after, afterAll}
 use Rattle.table.specs.Calls.{Call, opens, reseeds, draws, freshDraws, closes, inquires}
+use Rattle.demands.specs.Calls.{answer, after, afterAll}
 use Rattle.demands.specs.Handles.{issuedBy}
 use Rattle.demands.proofs.Outcome.{Outcome, outcome}
 

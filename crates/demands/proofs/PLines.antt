@@ -12,21 +12,16 @@ use Rattle.standard.specs.Strings.{numberOf, bytesOf, ceiling}
 use Rattle.standard.specs.HashDrbg as HashDrbg
 use Rattle.standard.proofs.PLines.{All, all-by}
 use Rattle.standard.proofs.PLines as Standard
-use Rattle.slots.specs.Layout.{slotAt, lastSerial, freshTable}
+use Rattle.slots.specs.Layout.{slotAt, lastSerial, freshTable, Table}
 use Rattle.slots.specs.Sound.{sound, soundSlots, soundSlot, freeSound, allZero}
 use Rattle.slots.specs.Handle.{handleOf, slotOf, names, lookUp, lowestFree}
 use Rattle.slots.specs.declared.slot.Slot.{Slot}
-use Rattle.slots.specs.Layout.{Table}
 use Rattle.slots.proofs.Soundness.{sound-fresh}
 use Rattle.slots.proofs.Handles.{names-fresh}
 use Rattle.table.specs.Reasons.{Reasons, _when_else_, firstOf, rounded}
 use Rattle.table.specs.Answers.{decided}
-use Rattle.table.specs.Calls.{reply}
-use Rattle.table.specs.Calls.{openReasons}
-use Rattle.table.specs.Calls.{closeReasons}
+use Rattle.table.specs.Calls.{reply, openReasons, closeReasons, Call, opens, closes, reasonsOf, Under, close}
 use Rattle.demands.specs.Calls.{answer, number, after}
-use Rattle.table.specs.Calls.{Call, opens, closes, reasonsOf}
-use Rattle.table.specs.Calls.{Under, close}
 use Rattle.demands.proofs.Answered.{number-first}
 use Rattle.demands.proofs.Handles.{unnamed-2}
 use Rattle.demands.proofs.Standard.{open-standard}

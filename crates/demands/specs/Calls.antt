@@ -1,6 +1,6 @@
 -- What a call and a sequence of calls are answered, and the table after them.
-use Prim.Native.Nat.{ℕ, _%_}
 use mathlib.Core.List.{List, [], _∷_}
+use Prim.Native.Nat.{ℕ, _%_}
 use Rattle.slots.specs.Layout.{Table}
 use Rattle.slots.specs.Handle.{lowestFree}
 use Rattle.table.specs.Answers.{Reply, Answer}

@@ -1,19 +1,15 @@
 -- The two ways in which a call comes out, refused or served, and what a served call leaves under its handle.
 use mathlib.Core.Path.{_≡_}
 use mathlib.Core.List.{List, [], _∷_}
-use Prim.Native.Nat.{ℕ, _+_, _-_, _%_}
-use lib.ListN.{length}
+use Prim.Native.Nat.{ℕ, _+_, _-_}
 use Rattle.standard.specs.State.{State}
 use Rattle.drbg.specs.Generator.{standing}
-use Rattle.slots.specs.Layout.{freeSlot, withSlot, lastSerial}
+use Rattle.slots.specs.Layout.{lastSerial, Table}
 use Rattle.slots.specs.Handle.{handleOf, slotOf, lowestFree}
 use Rattle.slots.specs.declared.slot.Slot.{Slot}
-use Rattle.slots.specs.Layout.{Table}
-use Rattle.table.specs.Reasons.{Reasons, served, _when_else_, rounded}
-use Rattle.table.specs.Answers.{Reply, refused, accepted, stepped, steppedDraw, withGenerator, newSlot, installed}
-use Rattle.table.specs.Served.{stateIn, opened, reseeded, drawn, freshDrawn}
-use Rattle.table.specs.Answers.{Answer}
-use Rattle.table.specs.Calls.{Call, opens, reseeds, draws, freshDraws, closes, inquires, lent}
+use Rattle.table.specs.Reasons.{Reasons, served, _when_else_}
+use Rattle.table.specs.Answers.{withGenerator, Answer}
+use Rattle.table.specs.Served.{stateIn}
 use Rattle.demands.specs.Draws.{left}
 
 -- the numbers of a list of reasons, in their order
