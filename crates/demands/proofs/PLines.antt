@@ -21,8 +21,10 @@ use Rattle.slots.proofs.Handles.{names-fresh}
 use Rattle.table.specs.Reasons.{Reasons, _when_else_, firstOf, rounded}
 use Rattle.table.specs.Answers.{decided}
 use Rattle.table.specs.Calls.{reply, openReasons, closeReasons, Call, opens, closes, reasonsOf, Under, close}
+use Rattle.table.proofs.FirstReason.{none-holds, first-is}
 use Rattle.demands.specs.Calls.{answer, number, after}
-use Rattle.demands.proofs.Answered.{number-first}
+use Rattle.demands.proofs.Outcome.{all-numbered}
+use Rattle.demands.proofs.Answered.{number-first, none-served}
 use Rattle.demands.proofs.Handles.{unnamed-2}
 use Rattle.demands.proofs.Standard.{open-standard}
 
@@ -95,11 +97,15 @@ unfolding place openReasons
 holds (edge r) same = Standard.holds r same
 holds (strength asked gives given) same = (
   λ t m i f e n p so. ap (λ (s : Slot). s .strength) (open-standard t m asked i f e n p so .slot) ∙ ap (place 0) same,
-  λ e n es ns. number-first freshTable (opens 1 asked 1 false e n []) ∙ ap firstOf (fresh-reasons asked e n es ns) ∙ ap (place 1) same,
+  λ e n es ns.
+      let c = opens 1 asked 1 false e n [] in
+      none-served freshTable c
+      (none-holds (reasonsOf freshTable c) (all-numbered freshTable c) (ap firstOf (fresh-reasons asked e n es ns) ∙ ap (place 1) same)),
 )
 holds (strength asked refused) same =
     λ t m i f e n p whole kind.
-    number-first t (opens m asked i f e n p) ∙ third _ whole (known kind) (is-true (ltb 256 asked) (ap (place 0) same))
+    number-first t (opens m asked i f e n p)
+    (first-is _ 3 (third _ whole (known kind) (is-true (ltb 256 asked) (ap (place 0) same))))
 holds (on-a-fresh-table h is-answered k) same =
     λ c under.
     unnamed-2 freshTable h sound-fresh (names-fresh h) c under
