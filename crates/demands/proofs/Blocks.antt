@@ -9,7 +9,6 @@ use lib.ListN.{length}
 use Rattle.standard.specs.Strings.{ceiling}
 use Rattle.standard.specs.Sha256.{sha256}
 use Rattle.standard.specs.Functions.{opening}
-use Rattle.standard.specs.Blocks.{drawCount}
 use Rattle.standard.proofs.Lengths.{counter-opening}
 use Rattle.standard.proofs.Bound.{bounded}
 use Rattle.standard.proofs.Counts.{opening-blocks, reseeding-blocks, draw-blocks, freshDraw-blocks}
@@ -37,9 +36,7 @@ use Rattle.demands.proofs.Between.{opened-named}
 longest-count : (t : Table) (h strength : ℕ) (out additional : List ℕ) → slotOf t h .mechanism ≡ 1 → length out ≡ 65536
     → length additional ≡ 1024 → countOf t (draws h strength out additional) ≡ 8288
 unfolding ceiling
-longest-count t h strength out additional kind asked extra =
-    ap (λ m. drawCount sha256 (mechanismOf m) (length out) (length additional)) kind
-    ∙ ap₂ (drawCount sha256 (mechanismOf 1)) asked extra
+longest-count t h strength out additional kind asked extra = simp (kind, asked, extra)
 
 -- close and inquire count no blocks
 pub close-blocks : (t : Table) (h : ℕ) → answer t (closes h) .blocks ≡ 0

@@ -34,7 +34,7 @@ use Rattle.demands.proofs.Moves.{moved, counter-held, below-16, sound-a
 use Rattle.demands.proofs.Handles.{unnamed-2, names-same, same-parts, last-moved, gone-after, gone, le-then}
 
 -- what a call that served n draws under the handle did for it: that many fewer are left, or it was closed
-pub data Step (h : ℕ) (t u : Table) (n : ℕ) : Type 0 where
+data Step (h : ℕ) (t u : Table) (n : ℕ) : Type 0 where
   goes-on : names u h ≡ true → n + left h u ≡ left h t → Step h t u n
   is-closed : names u h ≡ false → n ≡ 0 → Step h t u n
 
@@ -97,7 +97,7 @@ module _ (h : ℕ) (t : Table) (whole : sound t ≡ true) (is : names t h ≡ tr
       (ap₂ _+_ one (ap (λ (s : Slot). s .interval + 1 - s .counter) new ∙ ap (λ i. i + 1 - s .counter) interval)
       ∙ one-fewer counter due)
 
-  pub call-step : (c : Call) → reseededBy h c (answer t c) ≡ false → Step h t (after t c) (drewBy h c (answer t c))
+  call-step : (c : Call) → reseededBy h c (answer t c) ≡ false → Step h t (after t c) (drewBy h c (answer t c))
   unfolding stepped installed served filled standing
   call-step c quiet = go c (outcome t c) quiet
     where
@@ -107,7 +107,7 @@ module _ (h : ℕ) (t : Table) (whole : sound t ≡ true) (is : names t h ≡ tr
       go (opens m s i f e n p) (serving ok) q = alone h t _ refl is (free-elsewhere _ (may-open ok .slot-free) (lastSerial t + 1))
       go (reseeds handle e a) (serving ok) q =
           step-at handle _ (sym (named-is t handle) ∙ may-reseed ok .named-so)
-          (λ same. absurd (false≢true (sym q ∙ eq-eqb handle h same))) (λ other. refl)
+          (λ same. absurd (false≢true (cc (eq-eqb handle h same)))) (λ other. refl)
       go (draws handle k o a) (serving ok) q =
           let s = slotOf t handle in
           let named = sym (named-is t handle) ∙ may-draw ok .named-so in
@@ -122,7 +122,7 @@ module _ (h : ℕ) (t : Table) (whole : sound t ≡ true) (is : names t h ≡ tr
           (λ other. ap (λ b. cond b 1 0) (ne-eqb handle h other))
       go (freshDraws handle k o e a) (serving ok) q =
           step-at handle _ (sym (named-is t handle) ∙ may-draw-fresh ok .named-so)
-          (λ same. absurd (false≢true (sym q ∙ eq-eqb handle h same))) (λ other. refl)
+          (λ same. absurd (false≢true (cc (eq-eqb handle h same)))) (λ other. refl)
       go (closes handle) (serving ok) q =
           step-at handle freeSlot (sym (named-is t handle) ∙ may-close ok .named-so) (λ same. closed-step refl) (λ other. refl)
       go (inquires handle) (serving ok) q = alone h t t refl is refl

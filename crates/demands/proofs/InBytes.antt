@@ -41,7 +41,8 @@ module _ (c : Call) (s : List ℕ) where
   pub other-length : (length s ≡ tableSize → ⊥) → inBytes c s ≡ record { told = toldRefused 1; table = s; output = lent c }
   unfolding inBytes
   other-length h =
-      ap (λ b. cond b (done (reply (tableOf s) c)) (record { told = toldRefused 1; table = s; output = lent c })) (ne-eqb (length s) tableSize h)
+      ap (λ b. cond b (done (reply (tableOf s) c)) (record { told = toldRefused 1; table = s; output = lent c }))
+      (ne-eqb (length s) tableSize h)
 
   -- refused by a reason: no byte of the table or of the output is changed, and 0 blocks and value 0 are told
   pub refusal-keeps-bytes : {n : ℕ} → Bytes s → First n (reasonsIn s c)

@@ -45,7 +45,8 @@ slots-part (s ∷ slots) rest fit (suc i) room =
         let far : slotSize * suc i ≡ slotSize + slotSize * i = omega arith in
         ap (λ n. drop n ((slotBytes s ++ more) ++ rest)) far
         ∙ sym (drop-drop (slotSize * i) slotSize ((slotBytes s ++ more) ++ rest))
-        ∙ ap (drop (slotSize * i)) (ap (drop slotSize) (append-assoc (slotBytes s) more rest) ∙ drop-at (slotBytes s) (more ++ rest) slotSize whole)
+        ∙ ap (drop (slotSize * i))
+        (ap (drop slotSize) (append-assoc (slotBytes s) more rest) ∙ drop-at (slotBytes s) (more ++ rest) slotSize whole)
 
 module _ (t : Table) (m : Machine t) where
   fit : (i : ℕ) → i < length (t .slots) → Fits (getD (t .slots) i noSlot)
@@ -105,7 +106,7 @@ module _ (c : Call) (s : List ℕ) (b : Bytes s) where
           let t = tableOf s in
           let m = machine-tableOf s b sized in
           ap (λ l. getD l at 0) (left-by sized)
-          ∙ same-slot t (after t c) m (machine-after t c m) at before (others-kept t c (at / slotSize) other)
+          ∙ same-slot t (after t c) m (machine-after t c m) at before (others-kept t c (at / slotSize) (λ is. other (omega arith)))
           ∙ ap (λ l. getD l at 0) (bytes-tableOf s b sized)
       go (yes sized) (last-serial past kind) =
           let t = tableOf s in

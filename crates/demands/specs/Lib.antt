@@ -6,3 +6,4 @@ pub mod Outcomes
 pub mod Blocks
 pub mod InBytes
 pub mod Alike
+pub mod PLines
