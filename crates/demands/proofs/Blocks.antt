@@ -36,7 +36,7 @@ use Rattle.demands.proofs.Between.{opened-named}
 longest-count : (t : Table) (h strength : ℕ) (out additional : List ℕ) → slotOf t h .mechanism ≡ 1 → length out ≡ 65536
     → length additional ≡ 1024 → countOf t (draws h strength out additional) ≡ 8288
 unfolding ceiling
-longest-count t h strength out additional kind asked extra = simp (kind, asked, extra)
+longest-count t h strength out additional kind asked extra = simp (kind, asked, extra) refl
 
 -- close and inquire count no blocks
 pub close-blocks : (t : Table) (h : ℕ) → answer t (closes h) .blocks ≡ 0

@@ -29,7 +29,7 @@ use Rattle.table.specs.OnBytes.{Done, toldRefused, done, inBytes}
 use Rattle.table.proofs.OnBytes.{replied-on}
 use Rattle.table.specs.Calls.{Call, opens, reseeds, draws, freshDraws, closes, inquires, reasonsOf, reply, lent}
 use Rattle.demands.specs.Calls.{number, after, run}
-use Rattle.demands.specs.Alike.{AllAlike, toldOf, told, toldInBytes}
+use Rattle.demands.specs.Alike.{AllAlike, toldOf, told, toldBy, toldInBytes}
 use Rattle.demands.specs.InBytes.{inBytesAll, reasonsIn, repliedWith}
 use Rattle.demands.proofs.Outcome.{Outcome, outcome}
 use Rattle.demands.proofs.Answered.{refusal-keeps, answer-first}
@@ -176,17 +176,15 @@ from-zeros cs =
     all-in-bytes freshTable cs (subst Machine fresh-bytes (machine-tableOf (replicate tableSize 0) zeros refl))
 
 -- demand 3 of the caller's bytes: two sequences alike, on bytes that are zero at first, tell the same
-told-on : (d : Done) (r : Reply) → d ≡ done r → d .told ≡ toldOf (r .answer)
-told-on d r is =
-    let told = ap (λ (d : Done). d .told) is in
-    told-is (omega (arith, ap (λ x. x .number) told)) (omega (arith, ap (λ x. x .blocks) told)) (omega (arith, ap (λ x. x .value) told))
+told-of : (r : Reply) → toldBy (done r) ≡ toldOf (r .answer)
+told-of r = told-is (omega arith) (omega arith) (omega arith)
 
-tells : (rs : List Reply) → map (λ (d : Done). d .told) (map done rs) ≡ map (λ (r : Reply). toldOf (r .answer)) rs
+tells : (rs : List Reply) → map toldBy (map done rs) ≡ map (λ (r : Reply). toldOf (r .answer)) rs
 tells [] = refl
-tells (r ∷ rs) = ap₂ _∷_ (told-on (done r) r refl) (tells rs)
+tells (r ∷ rs) = ap₂ _∷_ (told-of r) (tells rs)
 
 told-from-zeros : (cs : List Call) → toldInBytes (replicate tableSize 0) cs ≡ told freshTable cs
-told-from-zeros cs = ap (map (λ (d : Done). d .told)) (from-zeros cs) ∙ tells (run freshTable cs)
+told-from-zeros cs = ap (map toldBy) (from-zeros cs) ∙ tells (run freshTable cs)
 
 pub bytes-from-zeros-alike : {cs ds : List Call} → AllAlike cs ds
     → toldInBytes (replicate tableSize 0) cs ≡ toldInBytes (replicate tableSize 0) ds

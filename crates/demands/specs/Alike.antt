@@ -50,9 +50,12 @@ toldOf a = record { number = a .number; blocks = a .blocks; value = a .value }
 abbrev pub told : Table → List Call → List Told
 told t cs = map (λ (r : Reply). toldOf (r .answer)) (run t cs)
 
--- the same of calls on the caller's bytes
+-- the same of a call on the caller's bytes
+abbrev pub toldBy : Done → Told
+toldBy d = d .told
+
 abbrev pub toldInBytes : (s : List ℕ) → List Call → List Told
-toldInBytes s cs = map (λ (d : Done). d .told) (inBytesAll s cs)
+toldInBytes s cs = map toldBy (inBytesAll s cs)
 
 -- two answers that tell the same and leave tables alike
 pub record SameOutcome (a b : Answer) : Type 0 where
