@@ -1,10 +1,10 @@
 -- Demand 2, draws: between two reseeds no more than `interval` draws are served under a handle, and inquire tells how many are left.
 -- Assumes of a sequence's first table that it is sound and names the handle.
 use mathlib.Core.Path.{_≡_, refl, sym, ap, ap₂, subst, _∙_}
-use mathlib.Core.Bool.{Bool, true, false, false≢true, _&&_, cond}
+use mathlib.Core.Bool.{true, false, false≢true, _&&_, and-false, cond}
 use mathlib.Core.Logic.{_≢_}
 use mathlib.Core.List.{List, [], _∷_}
-use Prim.Native.Nat.{ℕ, suc, _+_, _-_, _/_, _%_, _≤_}
+use Prim.Native.Nat.{ℕ, zero-le, suc, _+_, _-_, _/_, _%_, _≤_}
 use native.Mathlib.Nat.{zero-add}
 use native.Mathlib.Decide.{ℕ-discrete}
 use native.Mathlib.Omega.{arith}
@@ -128,10 +128,6 @@ module _ (h : ℕ) (t : Table) (whole : sound t ≡ true) (is : names t h ≡ tr
       go (inquires handle) (serving ok) q = alone h t t refl is refl
 
 -- no draw is served under a handle that names nothing
-and-false : (b : Bool) → _≡_ {A = ℕ} (cond (b && false) 1 0) 0
-and-false true = refl
-and-false false = refl
-
 unnamed-drew : (h : ℕ) (t : Table) (c : Call) → sound t ≡ true → names t h ≡ false → drewBy h c (answer t c) ≡ 0
 unnamed-drew h t (opens m s i f e n p) whole gone = refl
 unnamed-drew h t (reseeds handle e a) whole gone = refl
@@ -144,7 +140,7 @@ unnamed-drew h t (draws handle s o a) whole gone = go (ℕ-discrete handle h)
     go (yes same) =
         ap (λ k. cond (eqb k 0 && eqb handle h) 1 0)
         (unnamed-2 t handle whole (subst (λ k. names t k ≡ false) (sym same) gone) (draws handle s o a) draw)
-    go (no other) = ap (λ b. cond (eqb n 0 && b) 1 0) (ne-eqb handle h other) ∙ and-false (eqb n 0)
+    go (no other) = ap (λ b. cond (eqb n 0 && b) 1 0) (ne-eqb handle h other) ∙ ap (λ b. cond b 1 0) (and-false (eqb n 0))
 unnamed-drew h t (freshDraws handle s o e a) whole gone = refl
 unnamed-drew h t (closes handle) whole gone = refl
 unnamed-drew h t (inquires handle) whole gone = refl
@@ -168,12 +164,9 @@ step-exact : {h n : ℕ} {t u : Table} (d l : ℕ) → Step h t u n → (names u
 step-exact d l (goes-on named fewer) f g = omega (arith, f named)
 step-exact d l (is-closed unnamed no-draw) f g = absurd (g unnamed)
 
-nothing-less : (n : ℕ) → 0 ≤ n
-nothing-less n = omega arith
-
 -- without a reseed no more draws are served under a handle than were left
 pub draws-most : (h : ℕ) (t : Table) (cs : List Call) → sound t ≡ true → names t h ≡ true → NoReseed h t cs → drawsServed h t cs ≤ left h t
-draws-most h t [] whole is none = nothing-less (left h t)
+draws-most h t [] whole is none = zero-le
 draws-most h t (c ∷ cs) whole is (more quiet rest) =
     step-most (call-step h t whole is c quiet) (λ named. draws-most h (after t c) cs (sound-after t c whole) named rest)
     (none-when-gone h (after t c) cs (sound-after t c whole) (le-then (serial-old h t whole is) (last-moved (moved t c))))

@@ -14,8 +14,8 @@ use Rattle.slots.proofs.Handles.{slot-below, lowest-free, lowest-before}
 use Rattle.table.specs.Answers.{Reply, stepped, installed}
 use Rattle.table.proofs.Outcomes.{refusing, serving}
 use Rattle.table.proofs.Allowed.{may-close}
-use Rattle.table.specs.Calls.{Call, opens, reseeds, draws, freshDraws, closes, inquires}
-use Rattle.demands.specs.Calls.{number, after, own, NoOpening, reseeding, drawing, drawing-fresh, closing, inquiring}
+use Rattle.table.specs.Calls.{Call, opens, reseeds, draws, freshDraws, closes, inquires, Under, reseed, draw, fresh-draw, close, inquire}
+use Rattle.demands.specs.Calls.{number, after, own}
 use Rattle.demands.specs.Handles.{UsedBelow}
 use Rattle.demands.proofs.Outcome.{Outcome, outcome}
 use Rattle.demands.proofs.Answered.{served-is, served-none}
@@ -34,17 +34,17 @@ others-kept t c j other = go c (outcome t c) other
     go (closes handle) (serving none) h = slotAt-other t (handle % 16) _ j (λ at. h (omega arith))
     go (inquires handle) (serving none) h = refl
 
-pub last-kept : (t : Table) (c : Call) → NoOpening c → lastSerial (after t c) ≡ lastSerial t
+pub last-kept : (t : Table) (c : Call) {handle : ℕ} → Under handle c → lastSerial (after t c) ≡ lastSerial t
 unfolding stepped
-last-kept t c kind = go kind (outcome t c)
+last-kept t c under = go under (outcome t c)
   where
-    go : {c : Call} → NoOpening c → {r : Reply} → Outcome t c r → lastSerial (r .answer .table) ≡ lastSerial t
-    go kind (refusing n f) = refl
-    go reseeding (serving none) = lastSerial-withSlot t _ _
-    go drawing (serving none) = lastSerial-withSlot t _ _
-    go drawing-fresh (serving none) = lastSerial-withSlot t _ _
-    go closing (serving none) = lastSerial-withSlot t _ _
-    go inquiring (serving none) = refl
+    go : {c : Call} {handle : ℕ} → Under handle c → {r : Reply} → Outcome t c r → lastSerial (r .answer .table) ≡ lastSerial t
+    go under (refusing n f) = refl
+    go reseed (serving none) = lastSerial-withSlot t _ _
+    go draw (serving none) = lastSerial-withSlot t _ _
+    go fresh-draw (serving none) = lastSerial-withSlot t _ _
+    go close (serving none) = lastSerial-withSlot t _ _
+    go inquire (serving none) = refl
 
 pub inquire-keeps : (t : Table) (handle : ℕ) → after t (inquires handle) ≡ t
 inquire-keeps t handle = go (outcome t (inquires handle))

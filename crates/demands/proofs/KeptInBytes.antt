@@ -96,7 +96,7 @@ module _ (c : Call) (s : List ℕ) (b : Bytes s) where
   left-by : (sized : length s ≡ tableSize) → inBytes c s .table ≡ tableBytes (after (tableOf s) c)
   left-by sized = ap (λ (d : Done). d .table) (sym (replied-on c s sized refl))
 
-  -- a byte outside the call's own slot is as it was, and so is the last serial unless the call is an opening
+  -- a byte outside the call's own slot is as it was, and so is one of the last serial unless the call is an opening
   pub bytes-kept : (at : ℕ) → LeftAlone (tableOf s) c at → getD (inBytes c s .table) at 0 ≡ getD s at 0
   bytes-kept at alone = go (ℕ-discrete (length s) tableSize) alone
     where
@@ -108,11 +108,11 @@ module _ (c : Call) (s : List ℕ) (b : Bytes s) where
           ap (λ l. getD l at 0) (left-by sized)
           ∙ same-slot t (after t c) m (machine-after t c m) at before (others-kept t c (at / slotSize) (λ is. other (omega arith)))
           ∙ ap (λ l. getD l at 0) (bytes-tableOf s b sized)
-      go (yes sized) (last-serial past kind) =
+      go (yes sized) (last-serial past under) =
           let t = tableOf s in
           let m = machine-tableOf s b sized in
           ap (λ l. getD l at 0) (left-by sized)
-          ∙ same-last t (after t c) m (machine-after t c m) at past (last-kept t c kind)
+          ∙ same-last t (after t c) m (machine-after t c m) at past (last-kept t c under)
           ∙ ap (λ l. getD l at 0) (bytes-tableOf s b sized)
 
   -- and there are as many bytes as before

@@ -11,9 +11,9 @@ use Rattle.slots.specs.Layout.{Table}
 use Rattle.slots.specs.Bytes.{tableOf}
 use Rattle.table.specs.Reasons.{Reasons, _when_else_}
 use Rattle.table.specs.Answers.{Reply}
-use Rattle.table.specs.Calls.{Call, reasonsOf}
+use Rattle.table.specs.Calls.{Call, reasonsOf, Under}
 use Rattle.table.specs.OnBytes.{Done, inBytes}
-use Rattle.demands.specs.Calls.{own, NoOpening}
+use Rattle.demands.specs.Calls.{own}
 
 -- a sequence of calls, each on the bytes that the last one left
 abbrev pub inBytesAll : (s : List ℕ) → List Call → List Done
@@ -24,10 +24,10 @@ inBytesAll s (c ∷ cs) = inBytes c s ∷ inBytesAll (inBytes c s .table) cs
 abbrev pub reasonsIn : (s : List ℕ) → Call → Reasons
 reasonsIn s c = 1 when not (eqb (length s) tableSize) else reasonsOf (tableOf s) c
 
--- a byte that a call leaves alone: of another slot than its own, or, unless it is an opening, of the last serial
+-- a byte that a call leaves alone: of another slot than its own, or, for a call under a handle (all but an opening), of the last serial
 pub data LeftAlone (t : Table) (c : Call) (at : ℕ) : Type 0 where
   another-slot : at < lastAt → at / slotSize ≢ own t c → LeftAlone t c at
-  last-serial : lastAt ≤ at → NoOpening c → LeftAlone t c at
+  last-serial : {handle : ℕ} → lastAt ≤ at → Under handle c → LeftAlone t c at
 
 -- what a call on bytes did, as the reply to the table that they are
 abbrev pub repliedWith : Done → Reply
