@@ -1,5 +1,6 @@
 -- Demand 3: sequences alike in kinds, handles, settings and lengths are told the same numbers, values and block counts, whatever the
--- bytes. Assumes of two tables that they are sound and alike; the fresh one is.
+-- bytes: reasons ask for numbers and lengths alone, and counts are closed forms of lengths. Assumes of two tables that they are sound
+-- and alike; the fresh one is.
 use mathlib.Core.Path.{_≡_, refl, sym, ap, ap₂, subst, _∙_}
 use mathlib.Core.Bool.{Bool, true, not, _&&_, cond}
 use mathlib.Core.List.{List, _∷_, _++_}

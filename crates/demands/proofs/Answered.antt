@@ -1,20 +1,25 @@
 -- Demand 1: a call is refused by the first of its reasons that holds, and then changes nothing; where none holds it is served. What a
 -- refusal keeps is said by the reason, so that a call which is served in part may give a number too. Assumes nothing.
-use mathlib.Core.Path.{_≡_, refl, sym, ap, subst, _∙_}
-use mathlib.Core.Bool.{false≢true}
+use mathlib.Core.Path.{ap₂, _≡_, refl, sym, ap, subst, _∙_}
+use mathlib.Core.Bool.{true, false, false≢true}
 use mathlib.Core.Logic.{_⊎_, inl, inr}
+use mathlib.Core.List.{List, []}
 use Prim.Native.Nat.{ℕ, suc}
 use native.Mathlib.Omega.{arith}
-use Rattle.slots.specs.Layout.{Table}
-use Rattle.table.specs.Reasons.{Reasons, _when_else_, NoneHolds, First, this, later}
+use lib.ListN.{length}
+use Rattle.slots.specs.Layout.{slotAt, lastSerial, freshTable, Table}
+use Rattle.slots.specs.Handle.{lowestFree}
+use Rattle.slots.proofs.Soundness.{sound-fresh}
+use Rattle.table.specs.Reasons.{firstOf, Reasons, _when_else_, NoneHolds, First, this, later}
+use Rattle.table.proofs.FirstReason.{none-holds}
 use Rattle.table.specs.Answers.{Reply, stepped, installed}
 use Rattle.table.specs.Calls.{openReasons, reseedReasons, drawReasons, freshDrawReasons, closeReasons, inquireReasons, refusal, service}
 use Rattle.table.specs.Calls.{Call, opens, reseeds, draws, freshDraws, closes, inquires, reply, reasonsOf}
 use Rattle.table.proofs.Outcomes.{refusing, serving}
+use Rattle.demands.proofs.Outcome.{all-numbered, Outcome, outcome}
 use Rattle.demands.specs.Calls.{number, order}
 use Rattle.demands.specs.Outcomes.{numbersOf, Answered, serves, refuses}
 use Rattle.demands.specs.Handles.{Listed, here, there}
-use Rattle.demands.proofs.Outcome.{Outcome, outcome}
 
 -- a call's reasons are document 01's, in its order
 pub in-order : (t : Table) (c : Call) → numbersOf (reasonsOf t c) ≡ order c
@@ -109,3 +114,14 @@ module _ (t : Table) (c : Call) where
       go (serves none is) = inl (none-served none)
       go (refuses m f is) =
           inr (subst (λ k. Listed k (order c)) (sym (number-first f)) (subst (Listed (suc m)) (in-order t c) (first-listed f)))
+
+-- on the fresh table an opening is decided by its settings and lengths: one with 32 bytes of entropy and a nonce of 8
+pub fresh-served : (asked : ℕ) (entropy nonce : List ℕ) → length entropy ≡ 32 → length nonce ≡ 8
+    → firstOf (openReasons true 1 asked 1 32 8 0 0 0) ≡ 0 → number freshTable (opens 1 asked 1 false entropy nonce []) ≡ 0
+unfolding lowestFree slotAt lastSerial freshTable
+fresh-served asked entropy nonce es ns none =
+    let c = opens 1 asked 1 false entropy nonce [] in
+    let same : reasonsOf freshTable c ≡ openReasons true 1 asked 1 32 8 0 0 0 =
+    ap (λ b. openReasons b 1 asked 1 (length entropy) (length nonce) 0 0 0) sound-fresh
+    ∙ ap₂ (λ e n. openReasons true 1 asked 1 e n 0 0 0) es ns in
+    none-served freshTable c (none-holds (reasonsOf freshTable c) (all-numbered freshTable c) (ap firstOf same ∙ none))

@@ -1,5 +1,6 @@
 -- Demand 2, between two reseeds: after a served opening, reseed or fresh draw, and until the next served reseed, no more draws are served
--- under the handle than its interval; a fresh draw's own is one of them. Assumes nothing.
+-- under the handle than its interval, since each leaves all draws of the interval left; a fresh draw's own is one of them.
+-- Assumes nothing.
 use mathlib.Core.Path.{_≡_, sym, ap, subst, _∙_}
 use mathlib.Core.Bool.{Bool, true, not}
 use mathlib.Core.Logic.{_⊎_, inl, inr}

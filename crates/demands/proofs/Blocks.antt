@@ -18,7 +18,7 @@ use Rattle.slots.specs.Handle.{slotOf, names, lookUp, named, lowestFree}
 use Rattle.slots.specs.declared.slot.Slot.{Slot}
 use Rattle.slots.proofs.Soundness.{sound-fresh}
 use Rattle.slots.proofs.Handles.{named-is}
-use Rattle.table.specs.Reasons.{NoneHolds, rounded}
+use Rattle.table.specs.Reasons.{NoneHolds, firstOf, rounded}
 use Rattle.table.specs.Calls.{Call, opens, reseeds, draws, freshDraws, closes, inquires, reasonsOf, openReasons, drawReasons}
 use Rattle.table.specs.Answers.{Reply, stepped, installed, newSlot}
 use Rattle.table.specs.Served.{mechanismIn, stateIn}
@@ -27,7 +27,7 @@ use Rattle.table.proofs.Allowed.{may-open, may-reseed, may-draw, may-draw-fresh
 use Rattle.demands.specs.Calls.{answer, number, after}
 use Rattle.demands.specs.Blocks.{countOf, firstOpening, longestDraw}
 use Rattle.demands.proofs.Outcome.{Outcome, outcome}
-use Rattle.demands.proofs.Answered.{served-none, none-served}
+use Rattle.demands.proofs.Answered.{served-none, none-served, fresh-served}
 use Rattle.demands.proofs.Standard.{sized-by, open-standard, reseed-standard, draw-standard, fresh-draw-standard}
 use Rattle.demands.proofs.Moves.{sound-after}
 use Rattle.demands.proofs.Between.{opened-named}
@@ -110,12 +110,8 @@ longest-draw t h strength out additional kind asked extra so =
 -- and there is one
 module _ (entropy nonce : List ℕ) (es : length entropy ≡ 32) (ns : length nonce ≡ 8) where
   first-served : number freshTable (firstOpening entropy nonce) ≡ 0
-  unfolding openReasons rounded lowestFree slotAt lastSerial freshTable
-  first-served =
-      let same =
-      ap₂ (λ a b. openReasons a 1 256 1 b (length nonce) 0 0 0) sound-fresh es ∙ ap (λ n. openReasons true 1 256 1 32 n 0 0 0) ns in
-      none-served freshTable (firstOpening entropy nonce)
-      (subst NoneHolds (sym same) (refl, (refl, (refl, (refl, (refl, (refl, (refl, (refl, (refl, tt))))))))))
+  unfolding firstOf openReasons rounded
+  first-served = fresh-served 256 entropy nonce es ns refl
 
   first-handle : answer freshTable (firstOpening entropy nonce) .value ≡ 16
   unfolding lowestFree slotAt lastSerial freshTable

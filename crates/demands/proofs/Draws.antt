@@ -1,5 +1,5 @@
--- Demand 2, draws: between two reseeds no more than `interval` draws are served under a handle, and inquire tells how many are left.
--- Assumes of a sequence's first table that it is sound and names the handle.
+-- Demand 2, draws: between two reseeds no more than `interval` draws are served under a handle, since each leaves one fewer and no other
+-- call adds to them, and inquire tells how many are left. Assumes of a sequence's first table that it is sound and names the handle.
 use mathlib.Core.Path.{_≡_, refl, sym, ap, ap₂, subst, _∙_}
 use mathlib.Core.Bool.{true, false, false≢true, _&&_, and-false, cond}
 use mathlib.Core.Logic.{_≢_}

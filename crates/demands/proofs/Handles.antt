@@ -1,5 +1,5 @@
--- Demand 2, handles: a closed handle is answered 2 ever after, one never issued is answered 2, and no two openings get the same.
--- Assumes nothing.
+-- Demand 2, handles: a closed handle is answered 2 ever after, one never issued is answered 2, and no two openings get the same: serials
+-- only rise, and a handle names its slot by its serial. Assumes nothing.
 use mathlib.Core.Path.{_≡_, refl, sym, ap, ap₂, subst, _∙_}
 use mathlib.Core.Bool.{Bool, true, false, false≢true}
 use mathlib.Core.Logic.{_⊎_, inl, inr, ⊎-elim}

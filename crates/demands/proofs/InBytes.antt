@@ -1,5 +1,5 @@
--- The table in the caller's bytes: a refusal changes no byte of it or of the output, and a served call leaves the bytes of its table.
--- So what is proved of calls on tables holds of the bytes. Assumes nothing.
+-- The table in the caller's bytes: a refusal changes no byte of it or of the output, and a served call leaves the bytes of its table, which
+-- are read back as that table. So what is proved of sequences of calls on tables holds of the bytes, demand 3 too. Assumes nothing.
 use mathlib.Core.Path.{_≡_, refl, sym, ap, ap₂, subst, _∙_}
 use mathlib.Core.Bool.{Bool, true, false, not, _||_, cond}
 use mathlib.Core.Logic.{_⊎_, inl, inr, ⊎-elim}

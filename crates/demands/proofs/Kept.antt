@@ -1,5 +1,6 @@
 -- A call changes no slot but its own generator's, only an opening changes the last serial, inquire changes nothing, and closing leaves
--- every field zero and its slot the lowest free one again where none lower is free. Assumes nothing.
+-- every field zero and its slot the lowest free one again where none lower is free: a service puts one slot in and keeps the rest.
+-- Assumes nothing.
 use mathlib.Core.Path.{_≡_, refl, sym, ap, _∙_}
 use mathlib.Core.Bool.{false, false≢true}
 use mathlib.Core.Logic.{_≢_}
@@ -27,11 +28,11 @@ others-kept t c j other = go c (outcome t c) other
     go : (c : Call) {r : Reply} → Outcome t c r → j ≢ own t c → slotAt (r .answer .table) j ≡ slotAt t j
     go c (refusing n f) h = refl
     go (opens m s i f e n p) (serving none) h =
-        slotAt-withLastSerial _ (lastSerial t + 1) j ∙ slotAt-other t (lowestFree t 0 16) _ j (λ at. h (omega arith))
-    go (reseeds handle e a) (serving none) h = slotAt-other t (handle % 16) _ j (λ at. h (omega arith))
-    go (draws handle s o a) (serving none) h = slotAt-other t (handle % 16) _ j (λ at. h (omega arith))
-    go (freshDraws handle s o e a) (serving none) h = slotAt-other t (handle % 16) _ j (λ at. h (omega arith))
-    go (closes handle) (serving none) h = slotAt-other t (handle % 16) _ j (λ at. h (omega arith))
+        slotAt-withLastSerial _ (lastSerial t + 1) j ∙ slotAt-other t (lowestFree t 0 16) _ j h
+    go (reseeds handle e a) (serving none) h = slotAt-other t (handle % 16) _ j h
+    go (draws handle s o a) (serving none) h = slotAt-other t (handle % 16) _ j h
+    go (freshDraws handle s o e a) (serving none) h = slotAt-other t (handle % 16) _ j h
+    go (closes handle) (serving none) h = slotAt-other t (handle % 16) _ j h
     go (inquires handle) (serving none) h = refl
 
 pub last-kept : (t : Table) (c : Call) {handle : ℕ} → Under handle c → lastSerial (after t c) ≡ lastSerial t

@@ -92,43 +92,38 @@ module _ (t u : Table) (mt : Machine t) (mu : Machine u) (at : ℕ) where
       ∙ ap (λ p. getD p (at - lastAt) 0) (last-part u mu ∙ ap (littleEndian 4) same ∙ sym (last-part t mt))
       ∙ in-last (tableBytes t) at past
 
-module _ (c : Call) (s : List ℕ) (b : Bytes s) where
-  left-by : (sized : length s ≡ tableSize) → inBytes c s .table ≡ tableBytes (after (tableOf s) c)
-  left-by sized = ap (λ (d : Done). d .table) (sym (replied-on c s sized refl))
+-- what a call leaves: the bytes as they were where they are no table, else those of the table that follows
+by-length : (c : Call) (s : List ℕ) (P : List ℕ → Type 0) → P s → (length s ≡ tableSize → P (tableBytes (after (tableOf s) c)))
+    → P (inBytes c s .table)
+by-length c s P none some = go (ℕ-discrete (length s) tableSize)
+  where
+    go : Dec (length s ≡ tableSize) → P (inBytes c s .table)
+    go (no other) = subst (λ (d : Done). P (d .table)) (sym (other-length c s other)) none
+    go (yes sized) = subst (λ (d : Done). P (d .table)) (replied-on c s sized refl) (some sized)
 
+module _ (c : Call) (s : List ℕ) (b : Bytes s) where
   -- a byte outside the call's own slot is as it was, and so is one of the last serial unless the call is an opening
   pub bytes-kept : (at : ℕ) → LeftAlone (tableOf s) c at → getD (inBytes c s .table) at 0 ≡ getD s at 0
-  bytes-kept at alone = go (ℕ-discrete (length s) tableSize) alone
+  bytes-kept at alone =
+      by-length c s (λ l. getD l at 0 ≡ getD s at 0) refl
+      (λ sized. go (machine-tableOf s b sized) alone ∙ ap (λ l. getD l at 0) (bytes-tableOf s b sized))
     where
-      go : Dec (length s ≡ tableSize) → LeftAlone (tableOf s) c at → getD (inBytes c s .table) at 0 ≡ getD s at 0
-      go (no other) alone = ap (λ (d : Done). getD (d .table) at 0) (other-length c s other)
-      go (yes sized) (another-slot before other) =
-          let t = tableOf s in
-          let m = machine-tableOf s b sized in
-          ap (λ l. getD l at 0) (left-by sized)
-          ∙ same-slot t (after t c) m (machine-after t c m) at before (others-kept t c (at / slotSize) (λ is. other (omega arith)))
-          ∙ ap (λ l. getD l at 0) (bytes-tableOf s b sized)
-      go (yes sized) (last-serial past under) =
-          let t = tableOf s in
-          let m = machine-tableOf s b sized in
-          ap (λ l. getD l at 0) (left-by sized)
-          ∙ same-last t (after t c) m (machine-after t c m) at past (last-kept t c under)
-          ∙ ap (λ l. getD l at 0) (bytes-tableOf s b sized)
+      go : Machine (tableOf s) → LeftAlone (tableOf s) c at
+          → getD (tableBytes (after (tableOf s) c)) at 0 ≡ getD (tableBytes (tableOf s)) at 0
+      go m (another-slot before other) =
+          same-slot (tableOf s) (after (tableOf s) c) m (machine-after (tableOf s) c m) at before
+          (others-kept (tableOf s) c (at / slotSize) (λ is. other (omega arith)))
+      go m (last-serial past under) =
+          same-last (tableOf s) (after (tableOf s) c) m (machine-after (tableOf s) c m) at past (last-kept (tableOf s) c under)
 
   -- and there are as many bytes as before
   pub length-kept : length (inBytes c s .table) ≡ length s
-  length-kept = go (ℕ-discrete (length s) tableSize)
-    where
-      go : Dec (length s ≡ tableSize) → length (inBytes c s .table) ≡ length s
-      go (no other) = ap (λ (d : Done). length (d .table)) (other-length c s other)
-      go (yes sized) =
-          ap length (left-by sized)
-          ∙ length-tableBytes (after (tableOf s) c) (machine-after (tableOf s) c (machine-tableOf s b sized)) ∙ sym sized
+  length-kept =
+      by-length c s (λ l. length l ≡ length s) refl
+      (λ sized.
+      length-tableBytes (after (tableOf s) c) (machine-after (tableOf s) c (machine-tableOf s b sized)) ∙ sym sized)
 
 -- inquire changes no byte at all
 pub inquire-keeps-bytes : (h : ℕ) (s : List ℕ) → Bytes s → inBytes (inquires h) s .table ≡ s
-inquire-keeps-bytes h s b = go (ℕ-discrete (length s) tableSize)
-  where
-    go : Dec (length s ≡ tableSize) → inBytes (inquires h) s .table ≡ s
-    go (no other) = ap (λ (d : Done). d .table) (other-length (inquires h) s other)
-    go (yes sized) = left-by (inquires h) s b sized ∙ ap tableBytes (inquire-keeps (tableOf s) h) ∙ bytes-tableOf s b sized
+inquire-keeps-bytes h s b =
+    by-length (inquires h) s (λ l. l ≡ s) refl (λ sized. ap tableBytes (inquire-keeps (tableOf s) h) ∙ bytes-tableOf s b sized)

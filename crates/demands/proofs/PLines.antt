@@ -8,7 +8,7 @@ use mathlib.Core.List.{List, [], _∷_, map}
 use Prim.Native.Nat.{ℕ, _+_}
 use native.Mathlib.Omega.{arith}
 use lib.Dec.{eqb, ltb, lit<}
-use lib.ListN.{length, getD, drop}
+use lib.ListN.{getD, drop}
 use Rattle.standard.specs.Strings.{numberOf, bytesOf, ceiling}
 use Rattle.standard.specs.HashDrbg as HashDrbg
 use Rattle.standard.specs.Sha256.{sha256}
@@ -22,11 +22,10 @@ use Rattle.slots.proofs.Soundness.{sound-fresh}
 use Rattle.slots.proofs.Handles.{names-fresh}
 use Rattle.table.specs.Reasons.{Reasons, _when_else_, firstOf, rounded}
 use Rattle.table.specs.Answers.{decided}
-use Rattle.table.specs.Calls.{reply, openReasons, closeReasons, opens, closes, reasonsOf, close}
-use Rattle.table.proofs.FirstReason.{none-holds, first-is}
+use Rattle.table.specs.Calls.{reply, openReasons, closeReasons, opens, closes, close}
+use Rattle.table.proofs.FirstReason.{first-is}
 use Rattle.demands.specs.Calls.{number}
-use Rattle.demands.proofs.Outcome.{all-numbered}
-use Rattle.demands.proofs.Answered.{number-first, none-served}
+use Rattle.demands.proofs.Answered.{number-first, fresh-served}
 use Rattle.demands.proofs.Handles.{unnamed-2}
 use Rattle.demands.proofs.Standard.{open-standard}
 use Rattle.demands.specs.PLines.{Row, hash-of_takes_, update-with_takes_, _draw-of_takes_, _open-with_takes_, V-of_plus_is_}
@@ -78,12 +77,6 @@ is-true : (b : Bool) → _≡_ {A = ℕ} (cond b 4 0) 4 → b ≡ true
 is-true true e = refl
 is-true false e = let never : _≡_ {A = ℕ} 0 4 = e in absurd (omega arith)
 
-fresh-reasons : (asked : ℕ) (e n : List ℕ) → length e ≡ 32 → length n ≡ 8
-    → reasonsOf freshTable (opens 1 asked 1 false e n []) ≡ openReasons true 1 asked 1 32 8 0 0 0
-unfolding lowestFree slotAt lastSerial freshTable
-fresh-reasons asked e n es ns =
-    ap (λ b. openReasons b 1 asked 1 (length e) (length n) 0 0 0) sound-fresh ∙ ap₂ (λ a b. openReasons true 1 asked 1 a b 0 0 0) es ns
-
 holds : (r : Row) → computed r ≡ stated r → Holds r
 unfolding place computed stated openReasons
 holds (hash-of n takes k) same = λ m h. hash-blocks sha256 (lit< tt) m ∙ ap (hashCount sha256) h ∙ ap (place 0) same
@@ -94,10 +87,7 @@ holds (mechanism open-with n takes k) same =
 holds (V-of v plus n is sum) same = same
 holds (strength asked gives given) same = (
   λ t m i f e n p so. ap (λ (s : Slot). s .strength) (open-standard t m asked i f e n p so .slot) ∙ ap (place 0) same,
-  λ e n es ns.
-      let c = opens 1 asked 1 false e n [] in
-      none-served freshTable c
-      (none-holds (reasonsOf freshTable c) (all-numbered freshTable c) (ap firstOf (fresh-reasons asked e n es ns) ∙ ap (place 1) same)),
+  λ e n es ns. fresh-served asked e n es ns (ap (place 1) same),
 )
 holds (strength asked refused) same =
     λ t m i f e n p whole kind.

@@ -1,5 +1,5 @@
 -- Demand 2, the standard: what a served opening, reseed, draw and fresh draw leave, give out and count is SP 800-90A's function at the
--- state that stands under the handle. Assumes nothing.
+-- state that stands under the handle: services are defined by it, and a state is read back from its slot as it was put in. Assumes nothing.
 use mathlib.Core.Path.{_≡_, refl, sym, ap, _∙_}
 use mathlib.Core.Bool.{Bool, true}
 use mathlib.Core.List.{List}
