@@ -6,7 +6,7 @@ use Rattle.standard.specs.Hash.{hash, absorbed, compressed, added, turns
 use Rattle.standard.specs.Hash.{padded, padding, zeros, digest}
 use Rattle.standard.specs.Sha256.{sha256, K256, initial256}
 use Rattle.standard.specs.Hmac.{key, hmac, filled, xored}
-use Rattle.standard.specs.Vectors.{abc, abc-hash, two-blocks, two-blocks-hash, jefe, nothing, jefe-hmac}
+use Rattle.standard.specs.Vectors.{abc, abc-hash, two-blocks, two-blocks-hash, jefe-key, jefe-text, jefe-hmac}
 
 pub abc-example : hash sha256 abc ≡ abc-hash
 unfolding hash absorbed compressed added turns turn T₁ T₂ schedule scheduleWord wordAt blockAt padded padding zeros digest
@@ -18,7 +18,7 @@ unfolding hash absorbed compressed added turns turn T₁ T₂ schedule scheduleW
     numberOf bytesOf K256 initial256 two-blocks two-blocks-hash
 two-blocks-example = refl
 
-pub hmac-example : (key sha256 jefe >>= λ K. hmac sha256 K nothing) ≡ jefe-hmac
+pub hmac-example : (key sha256 jefe-key >>= λ K. hmac sha256 K jefe-text) ≡ jefe-hmac
 unfolding hash absorbed compressed added turns turn T₁ T₂ schedule scheduleWord wordAt blockAt padded padding zeros digest
-    numberOf bytesOf K256 initial256 key hmac filled xored jefe nothing jefe-hmac
+    numberOf bytesOf K256 initial256 key hmac filled xored jefe-key jefe-text jefe-hmac
 hmac-example = refl
