@@ -25,12 +25,12 @@ use Rattle.table.specs.Reasons.{_when_else_, First, this, later}
 use Rattle.table.specs.Answers.{Reply, stepped, installed}
 use Rattle.table.proofs.Outcomes.{refusing, serving}
 use Rattle.table.proofs.Allowed.{may-open}
-use Rattle.table.specs.OnBytes.{Done, toldRefused, done, inBytes}
+use Rattle.table.specs.OnBytes.{Done, done, inBytes}
 use Rattle.table.proofs.OnBytes.{replied-on}
-use Rattle.table.specs.Calls.{Call, opens, reseeds, draws, freshDraws, closes, inquires, reasonsOf, reply, lent}
+use Rattle.table.specs.Calls.{Call, opens, reseeds, draws, freshDraws, closes, inquires, reasonsOf, reply}
 use Rattle.demands.specs.Calls.{number, after, run}
 use Rattle.demands.specs.Alike.{AllAlike, toldOf, told, toldBy, toldInBytes}
-use Rattle.demands.specs.InBytes.{inBytesAll, reasonsIn, repliedWith}
+use Rattle.demands.specs.InBytes.{inBytesAll, reasonsIn, refusalIn, repliedWith}
 use Rattle.demands.proofs.Outcome.{Outcome, outcome}
 use Rattle.demands.proofs.Answered.{refusal-keeps, answer-first}
 use Rattle.demands.proofs.Moves.{Moves, stays, adds, steps, ends, moved}
@@ -38,24 +38,22 @@ use Rattle.demands.proofs.Alike.{told-is, runs-from-fresh-alike}
 
 module _ (c : Call) (s : List ℕ) where
   -- bytes of any other length are answered 1, and nothing is changed
-  pub other-length : (length s ≡ tableSize → ⊥) → inBytes c s ≡ record { told = toldRefused 1; table = s; output = lent c }
+  pub other-length : (length s ≡ tableSize → ⊥) → inBytes c s ≡ refusalIn s c 1
   unfolding inBytes
   other-length h =
-      ap (λ b. cond b (done (reply (tableOf s) c)) (record { told = toldRefused 1; table = s; output = lent c }))
-      (ne-eqb (length s) tableSize h)
+      ap (λ b. cond b (done (reply (tableOf s) c)) (refusalIn s c 1)) (ne-eqb (length s) tableSize h)
 
   -- refused by a reason: no byte of the table or of the output is changed, and 0 blocks and value 0 are told
-  pub refusal-keeps-bytes : {n : ℕ} → Bytes s → First n (reasonsIn s c)
-      → inBytes c s ≡ record { told = toldRefused n; table = s; output = lent c }
+  pub refusal-keeps-bytes : {n : ℕ} → Bytes s → First n (reasonsIn s c) → inBytes c s ≡ refusalIn s c n
   refusal-keeps-bytes b = go (eqb (length s) tableSize) refl
     where
       go : {n : ℕ} (long : Bool) → eqb (length s) tableSize ≡ long → First n (1 when not long else reasonsOf (tableOf s) c)
-          → inBytes c s ≡ record { told = toldRefused n; table = s; output = lent c }
+          → inBytes c s ≡ refusalIn s c n
       go {n} true long (later f) =
           let sized = eqb-true (length s) tableSize long in
           sym (replied-on c s sized refl)
           ∙ ap done (refusal-keeps (tableOf s) c f)
-          ∙ ap (λ u. record { told = toldRefused n; table = u; output = lent c }) (bytes-tableOf s b sized)
+          ∙ ap (λ u. refusalIn u c n) (bytes-tableOf s b sized)
       go false long this = other-length (eqb-false (length s) tableSize long)
 
   -- any number but 0 is that of the first reason that holds

@@ -11,8 +11,8 @@ use Rattle.slots.specs.Layout.{Table}
 use Rattle.slots.specs.Bytes.{tableOf}
 use Rattle.table.specs.Reasons.{Reasons, _when_else_}
 use Rattle.table.specs.Answers.{Reply}
-use Rattle.table.specs.Calls.{Call, reasonsOf, Under}
-use Rattle.table.specs.OnBytes.{Done, inBytes}
+use Rattle.table.specs.Calls.{Call, lent, reasonsOf, Under}
+use Rattle.table.specs.OnBytes.{Done, toldRefused, inBytes}
 use Rattle.demands.specs.Calls.{own}
 
 -- a sequence of calls, each on the bytes that the last one left
@@ -23,6 +23,10 @@ inBytesAll s (c ∷ cs) = inBytes c s ∷ inBytesAll (inBytes c s .table) cs
 -- the reasons of a call on bytes: bytes of another length are no table, which is refused before all else
 abbrev pub reasonsIn : (s : List ℕ) → Call → Reasons
 reasonsIn s c = 1 when not (eqb (length s) tableSize) else reasonsOf (tableOf s) c
+
+-- refused on bytes: these and the lent output as they were, 0 blocks and value 0
+abbrev pub refusalIn : (s : List ℕ) → Call → (n : ℕ) → Done
+refusalIn s c n = record { told = toldRefused n; table = s; output = lent c }
 
 -- a byte that a call leaves alone: of another slot than its own, or, for a call under a handle (all but an opening), of the last serial
 pub data LeftAlone (t : Table) (c : Call) (at : ℕ) : Type 0 where
