@@ -1,10 +1,12 @@
 -- Demand 3: sequences alike in kinds, handles, settings and lengths are told the same numbers, values and block counts, whatever the
--- bytes. Assumes of two tables that they are sound and alike; the fresh one is.
+-- bytes: reasons ask for numbers and lengths alone, and counts are closed forms of lengths. Assumes of two tables that they are sound
+-- and alike; the fresh one is.
 use mathlib.Core.Path.{_≡_, refl, sym, ap, ap₂, subst, _∙_}
 use mathlib.Core.Bool.{Bool, true, not, _&&_, cond}
 use mathlib.Core.List.{List, _∷_, _++_}
 use Prim.Native.Nat.{ℕ, zero, suc, _+_, _-_, _/_, _%_, _<_}
 use native.Mathlib.Decide.{ℕ-discrete}
+use native.Mathlib.Omega.{arith}
 use lib.Dec.{eqb, lit<, eqb·suc-zero}
 use lib.ListN.{length, length-append}
 use Rattle.standard.specs.State.{State}
@@ -21,14 +23,15 @@ use Rattle.slots.proofs.Slots.{slotAt-same, slotAt-other, lastSerial-withSlot}
 use Rattle.slots.proofs.Soundness.{sound-fresh, sound-has}
 use Rattle.slots.proofs.Handles.{named-is, slot-below, lowest-most}
 use Rattle.table.specs.Reasons.{Reasons, firstOf, rounded, NoneHolds}
-use Rattle.table.specs.Answers.{Reply, decided, stepped, installed, withGenerator, newSlot, generatorOf, Answer}
+use Rattle.table.specs.Answers.{Reply, decided, stepped, installed, withGenerator, newSlot, generatorOf}
 use Rattle.table.specs.Served.{mechanismIn, stateIn}
 use Rattle.table.proofs.FirstReason.{numbered, none-holds}
 use Rattle.table.proofs.Allowed.{may-open, may-reseed, may-draw, may-draw-fresh}
-use Rattle.demands.specs.Calls.{answer}
 use Rattle.table.specs.Calls.{Call, reply, reasonsOf, refusal, service}
+use Rattle.table.specs.declared.answers.Told.{Told}
+use Rattle.demands.specs.Calls.{answer}
 use Rattle.demands.specs.Alike.{Alike, openings, reseedings, drawings, fresh-drawings, closings, inquiries, AllAlike, none, more}
-use Rattle.demands.specs.Alike.{SameNumbers, AlikeTables, Told, toldOf, told}
+use Rattle.demands.specs.Alike.{SameNumbers, AlikeTables, SameOutcome, told}
 use Rattle.demands.proofs.Outcome.{reply-decided, all-numbered}
 use Rattle.demands.proofs.Moves.{sound-after, counter-held, below-16}
 use Rattle.demands.proofs.Standard.{sized-by}
@@ -51,7 +54,7 @@ pair reasons f g a b ok = go (firstOf reasons) refl
 lengths : (a b c d : List ℕ) → length a ≡ length c → length b ≡ length d → length (a ++ b) ≡ length (c ++ d)
 lengths a b c d h l = length-append a b ∙ ap₂ _+_ h l ∙ sym (length-append c d)
 
-told-is : {n b v n′ b′ v′ : ℕ} → n ≡ n′ → b ≡ b′ → v ≡ v′
+pub told-is : {n b v n′ b′ v′ : ℕ} → n ≡ n′ → b ≡ b′ → v ≡ v′
     → _≡_ {A = Told} (record { number = n; blocks = b; value = v }) (record { number = n′; blocks = b′; value = v′ })
 told-is p q r = λ i. record { number = p i; blocks = q i; value = r i }
 
@@ -86,7 +89,10 @@ module _ {t u : Table} (tables : AlikeTables t u) where
 module _ {t u : Table} (tables : AlikeTables t u) (t-sound : sound t ≡ true) (u-sound : sound u ≡ true) where
   reasons-alike : {c d : Call} → Alike c d → reasonsOf t c ≡ reasonsOf u d
   reasons-alike (openings e n p) = cc (lowest-alike tables 0 16)
-  reasons-alike (reseedings {handle} e a) = let same = tables .slots (handle % 16) in cc (named-alike tables handle)
+  reasons-alike (reseedings {handle} {a = a} {a′ = a′} e eq) =
+      let same = tables .slots (handle % 16) in
+      let lengths : length a ≡ length a′ = omega arith in
+      cc (named-alike tables handle)
   reasons-alike (drawings {handle} o a) = let same = tables .slots (handle % 16) in cc (named-alike tables handle)
   reasons-alike (fresh-drawings {handle} o e a) = let same = tables .slots (handle % 16) in cc (named-alike tables handle)
   reasons-alike (closings {handle}) = cc (named-alike tables handle)
@@ -126,11 +132,6 @@ alike-later : {t u : Table} {j k : ℕ} → j ≡ k → AlikeTables t u → Alik
 unfolding withLastSerial slotAt lastSerial
 alike-later next tables = record { last = next; slots = tables .slots }
 
--- two answers that tell the same and leave tables alike
-pub record SameOutcome (a b : Answer) : Type 0 where
-  pub told : toldOf a ≡ toldOf b
-  pub tables : AlikeTables (a .table) (b .table)
-
 module _ {t u : Table} (tables : AlikeTables t u) (t-sound : sound t ≡ true) (u-sound : sound u ≡ true) where
   mechanisms : (h : ℕ) → mechanismIn (slotOf t h) ≡ mechanismIn (slotOf u h)
   mechanisms h = ap mechanismOf (tables .slots (h % 16) .mechanism)
@@ -141,7 +142,9 @@ module _ {t u : Table} (tables : AlikeTables t u) (t-sound : sound t ≡ true) (
   unfolding stepped
   step-alike h a b j k counters blocks =
       record {
-        told = told-is refl blocks refl;
+        number = refl;
+        blocks = blocks;
+        value = refl;
         tables =
             alike-with tables t-sound u-sound (h % 16) (h % 16) _ _ refl (slot-below t h)
             (same-step a b (tables .slots (h % 16)) counters);
@@ -154,12 +157,12 @@ module _ {t u : Table} (tables : AlikeTables t u) (t-sound : sound t ≡ true) (
       let here = lowest-alike tables 0 16 in
       let next : lastSerial t + 1 ≡ lastSerial u + 1 = ap (λ k. k + 1) (tables .last) in
       record {
-        told =
-            told-is refl
-            (opening-blocks sha256 (lit< tt) (mechanismOf m) e n p
+        number = refl;
+        blocks =
+            opening-blocks sha256 (lit< tt) (mechanismOf m) e n p
             ∙ ap (openCount sha256 (mechanismOf m)) (lengths e (n ++ p) e′ (n′ ++ p′) es (lengths n p n′ p′ ns ps))
-            ∙ sym (opening-blocks sha256 (lit< tt) (mechanismOf m) e′ n′ p′))
-            (ap₂ handleOf next here);
+            ∙ sym (opening-blocks sha256 (lit< tt) (mechanismOf m) e′ n′ p′);
+        value = ap₂ handleOf next here;
         tables =
             alike-later next
             (alike-with tables t-sound u-sound (lowestFree t 0 16) (lowestFree u 0 16) _ _ here
@@ -204,10 +207,15 @@ module _ {t u : Table} (tables : AlikeTables t u) (t-sound : sound t ≡ true) (
       ∙ sym (freshDraw-blocks sha256 (lit< tt) (mechanismIn v) (stateIn v) (length o′) e′ a′
       (sized-by u h (may′ .sound-so) (may′ .named-so))))
   served-alike (closings {handle = h}) ok ok′ =
-      record { told = refl; tables = alike-with tables t-sound u-sound (h % 16) (h % 16) freeSlot freeSlot refl (slot-below t h) same-free }
+      record {
+        number = refl;
+        blocks = refl;
+        value = refl;
+        tables = alike-with tables t-sound u-sound (h % 16) (h % 16) freeSlot freeSlot refl (slot-below t h) same-free;
+      }
   served-alike (inquiries {handle = h}) ok ok′ =
       let same = tables .slots (h % 16) in
-      record { told = told-is refl refl (ap₂ (λ i c. i + 1 - c) (same .interval) (same .counter)); tables = tables }
+      record { number = refl; blocks = refl; value = ap₂ (λ i c. i + 1 - c) (same .interval) (same .counter); tables = tables }
 
   -- two calls alike
   pub call-alike : {c d : Call} → Alike c d → SameOutcome (answer t c) (answer u d)
@@ -221,7 +229,7 @@ module _ {t u : Table} (tables : AlikeTables t u) (t-sound : sound t ≡ true) (
     where
       go : {r q : Reply} → reasonsOf t c ≡ reasonsOf u d → Pair (reasonsOf t c) (refusal t c) (refusal u d) (service t c) (service u d) r q
           → SameOutcome (r .answer) (q .answer)
-      go same (refusing-both n) = record { told = refl; tables = tables }
+      go same (refusing-both n) = record { number = refl; blocks = refl; value = refl; tables = tables }
       go same (serving-both ok) = served-alike alike ok (subst NoneHolds same ok)
 
 -- the lists of numbers, values and counts of two sequences alike are equal
@@ -230,7 +238,8 @@ pub runs-alike : {t u : Table} {cs ds : List Call} → AlikeTables t u → sound
 runs-alike tables t-sound u-sound none = refl
 runs-alike {t} {u} tables t-sound u-sound (more {c} {d} alike rest) =
     let same = call-alike tables t-sound u-sound alike in
-    ap₂ _∷_ (same .told) (runs-alike (same .tables) (sound-after t c t-sound) (sound-after u d u-sound) rest)
+    ap₂ _∷_ (told-is (omega (arith, same .number)) (omega (arith, same .blocks)) (omega (arith, same .value)))
+    (runs-alike (same .tables) (sound-after t c t-sound) (sound-after u d u-sound) rest)
 
 pub runs-from-fresh-alike : {cs ds : List Call} → AllAlike cs ds → told freshTable cs ≡ told freshTable ds
 runs-from-fresh-alike = runs-alike (record { last = refl; slots = λ i. same-itself (slotAt freshTable i) }) sound-fresh sound-fresh

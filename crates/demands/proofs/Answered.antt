@@ -1,20 +1,25 @@
--- Demand 1: what a call is answered, and that a refusal changes nothing. Assumes nothing.
-use mathlib.Core.Path.{_≡_, refl, sym, ap, subst, _∙_}
-use mathlib.Core.Bool.{false≢true, cond}
+-- Demand 1: a call is refused by the first of its reasons that holds, and then changes nothing; where none holds it is served. What a
+-- refusal keeps is said by the reason, so that a call which is served in part may give a number too. Assumes nothing.
+use mathlib.Core.Path.{ap₂, _≡_, refl, sym, ap, subst, _∙_}
+use mathlib.Core.Bool.{true, false, false≢true}
 use mathlib.Core.Logic.{_⊎_, inl, inr}
-use Prim.Native.Nat.{ℕ, zero, suc}
+use mathlib.Core.List.{List, []}
+use Prim.Native.Nat.{ℕ, suc}
 use native.Mathlib.Omega.{arith}
-use lib.Dec.{eqb, eqb·suc-zero}
-use Rattle.slots.specs.Layout.{Table}
-use Rattle.table.specs.Reasons.{Reasons, _when_else_, firstOf, NoneHolds, First, this, later}
-use Rattle.table.specs.Answers.{Reply, decided, stepped, installed}
+use lib.ListN.{length}
+use Rattle.slots.specs.Layout.{slotAt, lastSerial, freshTable, Table}
+use Rattle.slots.specs.Handle.{lowestFree}
+use Rattle.slots.proofs.Soundness.{sound-fresh}
+use Rattle.table.specs.Reasons.{firstOf, Reasons, _when_else_, NoneHolds, First, this, later}
+use Rattle.table.proofs.FirstReason.{none-holds}
+use Rattle.table.specs.Answers.{Reply, stepped, installed}
 use Rattle.table.specs.Calls.{openReasons, reseedReasons, drawReasons, freshDrawReasons, closeReasons, inquireReasons, refusal, service}
-use Rattle.table.proofs.Outcomes.{refusing, serving}
-use Rattle.demands.specs.Calls.{number, order}
 use Rattle.table.specs.Calls.{Call, opens, reseeds, draws, freshDraws, closes, inquires, reply, reasonsOf}
-use Rattle.demands.specs.Outcomes.{numbersOf}
+use Rattle.table.proofs.Outcomes.{refusing, serving}
+use Rattle.demands.proofs.Outcome.{all-numbered, Outcome, outcome}
+use Rattle.demands.specs.Calls.{number, order}
+use Rattle.demands.specs.Outcomes.{numbersOf, Answered, serves, refuses}
 use Rattle.demands.specs.Handles.{Listed, here, there}
-use Rattle.demands.proofs.Outcome.{Outcome, outcome, reply-decided}
 
 -- a call's reasons are document 01's, in its order
 pub in-order : (t : Table) (c : Call) → numbersOf (reasonsOf t c) ≡ order c
@@ -30,6 +35,18 @@ first-listed : {n : ℕ} {reasons : Reasons} → First n reasons → Listed n (n
 first-listed this = here
 first-listed (later f) = there (first-listed f)
 
+first-one : {n m : ℕ} {reasons : Reasons} → First n reasons → First m reasons → n ≡ m
+first-one this this = refl
+first-one (later f) (later g) = first-one f g
+
+no-reason-first : {n : ℕ} (reasons : Reasons) → First n reasons → NoneHolds reasons → ⊥
+no-reason-first (n when holds else rest) this none = false≢true (sym (none .0))
+no-reason-first (number when holds else rest) (later f) none = no-reason-first rest f (none .1)
+
+never-next : {n : ℕ} → suc n ≡ 0 → ⊥
+never-next h = omega arith
+
+-- each of the six calls is answered 0 where it is served
 pub service-number : (t : Table) (c : Call) → service t c .answer .number ≡ 0
 unfolding installed stepped
 service-number t (opens mechanism strength interval fresh entropy nonce personalization) = refl
@@ -39,77 +56,72 @@ service-number t (freshDraws handle strength out entropy additional) = refl
 service-number t (closes handle) = refl
 service-number t (inquires handle) = refl
 
--- the answer's number is the first of the reasons, 0 where there is none
-pub number-first : (t : Table) (c : Call) → number t c ≡ firstOf (reasonsOf t c)
-unfolding decided
-number-first t c = ap (λ (r : Reply). r .answer .number) (reply-decided t c) ∙ go (firstOf (reasonsOf t c))
-  where
-    go : (n : ℕ) → cond (eqb n 0) (service t c) (refusal t c n) .answer .number ≡ n
-    go zero = service-number t c
-    go (suc n) = ap (λ b. cond b (service t c) (refusal t c (suc n)) .answer .number) (eqb·suc-zero n)
-
-never-next : {n : ℕ} → suc n ≡ 0 → ⊥
-never-next h = omega arith
-
--- all that a call can be answered
-pub data Answered (t : Table) (c : Call) (r : Reply) : Type 0 where
-  serves : r .answer .number ≡ 0 → NoneHolds (reasonsOf t c) → r ≡ service t c → Answered t c r
-  refuses : (n : ℕ) → r .answer .number ≡ suc n → First (suc n) (reasonsOf t c) → r ≡ refusal t c (suc n) → Answered t c r
-
-pub answered : (t : Table) (c : Call) → Answered t c (reply t c)
-answered t c = go (outcome t c)
-  where
-    go : {r : Reply} → Outcome t c r → Answered t c r
-    go (refusing n f) = refuses n refl f refl
-    go (serving none) = serves (service-number t c) none refl
-
-no-reason-first : {n : ℕ} (reasons : Reasons) → First n reasons → NoneHolds reasons → ⊥
-no-reason-first (n when holds else rest) this none = false≢true (sym (none .0))
-no-reason-first (number when holds else rest) (later f) none = no-reason-first rest f (none .1)
-
 module _ (t : Table) (c : Call) where
-  -- the number is 0 or one of document 01's for this call
-  pub answer-listed : (number t c ≡ 0) ⊎ Listed (number t c) (order c)
-  answer-listed = go (answered t c)
+  pub answered : Answered t c (reply t c)
+  answered = go (outcome t c)
     where
-      go : Answered t c (reply t c) → (number t c ≡ 0) ⊎ Listed (number t c) (order c)
-      go (serves none-first none is) = inl none-first
-      go (refuses n is f same) = inr (subst (λ k. Listed k (order c)) (sym is) (subst (Listed (suc n)) (in-order t c) (first-listed f)))
+      go : {r : Reply} → Outcome t c r → Answered t c r
+      go (refusing n f) = refuses n f refl
+      go (serving none) = serves none refl
 
-  -- it is the first reason that holds
-  pub answer-first : (n : ℕ) → number t c ≡ suc n → First (suc n) (reasonsOf t c)
-  answer-first n h = go (answered t c)
+  -- refused by a reason: the table and the output are equal, and 0 blocks and value 0 are reported
+  pub refusal-keeps : {n : ℕ} → First n (reasonsOf t c) → reply t c ≡ refusal t c n
+  refusal-keeps {n} first = go answered
     where
-      go : Answered t c (reply t c) → First (suc n) (reasonsOf t c)
-      go (serves none-first none is) = absurd (never-next (sym h ∙ none-first))
-      go (refuses m is f same) = subst (λ k. First k (reasonsOf t c)) (sym is ∙ h) f
+      go : Answered t c (reply t c) → reply t c ≡ refusal t c n
+      go (serves none is) = absurd (no-reason-first (reasonsOf t c) first none)
+      go (refuses m f is) = is ∙ ap (refusal t c) (first-one f first)
 
-  -- 0 only when none holds, and whenever none holds
-  pub served-none : number t c ≡ 0 → NoneHolds (reasonsOf t c)
-  served-none h = go (answered t c)
-    where
-      go : Answered t c (reply t c) → NoneHolds (reasonsOf t c)
-      go (serves none-first none is) = none
-      go (refuses m is f same) = absurd (never-next (sym is ∙ h))
+  -- with the reason's number
+  pub number-first : {n : ℕ} → First n (reasonsOf t c) → number t c ≡ n
+  number-first first = ap (λ (r : Reply). r .answer .number) (refusal-keeps first)
 
-  pub none-served : NoneHolds (reasonsOf t c) → number t c ≡ 0
-  none-served none = go (answered t c)
-    where
-      go : Answered t c (reply t c) → number t c ≡ 0
-      go (serves none-first none is) = none-first
-      go (refuses m is f same) = absurd (no-reason-first (reasonsOf t c) f none)
-
-  pub served-is : number t c ≡ 0 → reply t c ≡ service t c
-  served-is h = go (answered t c)
+  -- and served where there is none
+  pub none-serves : NoneHolds (reasonsOf t c) → reply t c ≡ service t c
+  none-serves none = go answered
     where
       go : Answered t c (reply t c) → reply t c ≡ service t c
-      go (serves none-first none is) = is
-      go (refuses m is f same) = absurd (never-next (sym is ∙ h))
+      go (serves none is) = is
+      go (refuses m f is) = absurd (no-reason-first (reasonsOf t c) f none)
 
-  -- a refusal leaves the table and the output equal, and reports 0 blocks and value 0
-  pub refusal-keeps : (number t c ≡ 0 → ⊥) → reply t c ≡ refusal t c (number t c)
-  refusal-keeps h = go (answered t c)
+  -- the number is 0 whenever no reason holds, and only then
+  pub none-served : NoneHolds (reasonsOf t c) → number t c ≡ 0
+  none-served none = ap (λ (r : Reply). r .answer .number) (none-serves none) ∙ service-number t c
+
+  pub served-none : number t c ≡ 0 → NoneHolds (reasonsOf t c)
+  served-none h = go answered
     where
-      go : Answered t c (reply t c) → reply t c ≡ refusal t c (number t c)
-      go (serves none-first none is) = absurd (h none-first)
-      go (refuses m is f same) = same ∙ ap (refusal t c) (sym is)
+      go : Answered t c (reply t c) → NoneHolds (reasonsOf t c)
+      go (serves none is) = none
+      go (refuses m f is) = absurd (never-next (sym (number-first f) ∙ h))
+
+  pub served-is : number t c ≡ 0 → reply t c ≡ service t c
+  served-is h = none-serves (served-none h)
+
+  -- any other number is that of the first reason that holds
+  pub answer-first : (n : ℕ) → number t c ≡ suc n → First (suc n) (reasonsOf t c)
+  answer-first n h = go answered
+    where
+      go : Answered t c (reply t c) → First (suc n) (reasonsOf t c)
+      go (serves none is) = absurd (never-next (sym h ∙ none-served none))
+      go (refuses m f is) = subst (λ k. First k (reasonsOf t c)) (sym (number-first f) ∙ h) f
+
+  -- so it is 0 or one of document 01's for this call
+  pub answer-listed : (number t c ≡ 0) ⊎ Listed (number t c) (order c)
+  answer-listed = go answered
+    where
+      go : Answered t c (reply t c) → (number t c ≡ 0) ⊎ Listed (number t c) (order c)
+      go (serves none is) = inl (none-served none)
+      go (refuses m f is) =
+          inr (subst (λ k. Listed k (order c)) (sym (number-first f)) (subst (Listed (suc m)) (in-order t c) (first-listed f)))
+
+-- on the fresh table an opening is decided by its settings and lengths: one with 32 bytes of entropy and a nonce of 8
+pub fresh-served : (asked : ℕ) (entropy nonce : List ℕ) → length entropy ≡ 32 → length nonce ≡ 8
+    → firstOf (openReasons true 1 asked 1 32 8 0 0 0) ≡ 0 → number freshTable (opens 1 asked 1 false entropy nonce []) ≡ 0
+unfolding lowestFree slotAt lastSerial freshTable
+fresh-served asked entropy nonce es ns none =
+    let c = opens 1 asked 1 false entropy nonce [] in
+    let same : reasonsOf freshTable c ≡ openReasons true 1 asked 1 32 8 0 0 0 =
+    ap (λ b. openReasons b 1 asked 1 (length entropy) (length nonce) 0 0 0) sound-fresh
+    ∙ ap₂ (λ e n. openReasons true 1 asked 1 e n 0 0 0) es ns in
+    none-served freshTable c (none-holds (reasonsOf freshTable c) (all-numbered freshTable c) (ap firstOf same ∙ none))

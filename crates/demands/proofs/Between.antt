@@ -1,5 +1,6 @@
 -- Demand 2, between two reseeds: after a served opening, reseed or fresh draw, and until the next served reseed, no more draws are served
--- under the handle than its interval; a fresh draw's own is one of them. Assumes nothing.
+-- under the handle than its interval, since each leaves all draws of the interval left; a fresh draw's own is one of them.
+-- Assumes nothing.
 use mathlib.Core.Path.{_≡_, sym, ap, subst, _∙_}
 use mathlib.Core.Bool.{Bool, true, not}
 use mathlib.Core.Logic.{_⊎_, inl, inr}
@@ -8,15 +9,14 @@ use Prim.Native.Nat.{ℕ, _+_, _-_, _/_, _≤_}
 use native.Mathlib.Omega.{arith}
 use lib.Dec.{eqb}
 use Rattle.standard.specs.State.{State}
-use Rattle.slots.specs.Layout.{lastSerial, freshTable}
+use Rattle.slots.specs.Layout.{lastSerial, freshTable, Table}
 use Rattle.slots.specs.Handle.{inUse, slotOf, names, lowestFree}
 use Rattle.slots.specs.declared.slot.Slot.{Slot}
-use Rattle.slots.specs.Layout.{Table}
 use Rattle.slots.proofs.Handles.{named-is, names-used, names-serial, names-by, sound-named, lowest-most, handle-serial}
 use Rattle.table.specs.Answers.{Answer}
 use Rattle.table.proofs.Allowed.{may-open, may-reseed, may-draw-fresh}
-use Rattle.demands.specs.Calls.{answer, number, after, afterAll}
 use Rattle.table.specs.Calls.{Call, opens, reseeds, freshDraws}
+use Rattle.demands.specs.Calls.{answer, number, after, afterAll}
 use Rattle.demands.specs.Draws.{drawsServed, NoReseed}
 use Rattle.demands.specs.Outcomes.{Follows}
 use Rattle.demands.proofs.Answered.{served-none}

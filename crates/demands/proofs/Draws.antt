@@ -1,10 +1,10 @@
--- Demand 2, draws: between two reseeds no more than `interval` draws are served under a handle, and inquire tells how many are left.
--- Assumes of a sequence's first table that it is sound and names the handle.
+-- Demand 2, draws: between two reseeds no more than `interval` draws are served under a handle, since each leaves one fewer and no other
+-- call adds to them, and inquire tells how many are left. Assumes of a sequence's first table that it is sound and names the handle.
 use mathlib.Core.Path.{_≡_, refl, sym, ap, ap₂, subst, _∙_}
-use mathlib.Core.Bool.{Bool, true, false, false≢true, _&&_, cond}
+use mathlib.Core.Bool.{true, false, false≢true, _&&_, and-false, cond}
 use mathlib.Core.Logic.{_≢_}
 use mathlib.Core.List.{List, [], _∷_}
-use Prim.Native.Nat.{ℕ, suc, _+_, _-_, _/_, _%_, _≤_}
+use Prim.Native.Nat.{ℕ, zero-le, suc, _+_, _-_, _/_, _%_, _≤_}
 use native.Mathlib.Nat.{zero-add}
 use native.Mathlib.Decide.{ℕ-discrete}
 use native.Mathlib.Omega.{arith}
@@ -14,11 +14,10 @@ use lib.ListN.{length}
 use Rattle.standard.specs.Sha256.{sha256}
 use Rattle.standard.proofs.Lengths.{counter-draw}
 use Rattle.drbg.specs.Generator.{standing, served, filled}
-use Rattle.slots.specs.Layout.{freeSlot, slotAt, withSlot, lastSerial, withLastSerial}
+use Rattle.slots.specs.Layout.{freeSlot, slotAt, withSlot, lastSerial, withLastSerial, Table}
 use Rattle.slots.specs.Sound.{sound}
 use Rattle.slots.specs.Handle.{inUse, slotOf, names, lowestFree}
 use Rattle.slots.specs.declared.slot.Slot.{Slot}
-use Rattle.slots.specs.Layout.{Table}
 use Rattle.slots.proofs.Slots.{slotAt-same, slotAt-other, slotAt-withLastSerial}
 use Rattle.slots.proofs.Soundness.{sound-has}
 use Rattle.slots.proofs.Handles.{named-is, names-used, names-serial, names-by, sound-named, slot-below, lowest-free, lowest-most}
@@ -26,9 +25,8 @@ use Rattle.table.specs.Answers.{Reply, stepped, installed, generatorOf}
 use Rattle.table.specs.Served.{mechanismIn, stateIn}
 use Rattle.table.proofs.Outcomes.{refusing, serving}
 use Rattle.table.proofs.Allowed.{may-open, may-reseed, may-draw, may-draw-fresh, may-close}
+use Rattle.table.specs.Calls.{Call, opens, reseeds, draws, freshDraws, closes, inquires, draw}
 use Rattle.demands.specs.Calls.{answer, number, after, afterAll}
-use Rattle.table.specs.Calls.{Call, opens, reseeds, draws, freshDraws, closes, inquires}
-use Rattle.table.specs.Calls.{draw}
 use Rattle.demands.specs.Draws.{left, drewBy, drawsServed, reseededBy, NoReseed, none, more}
 use Rattle.demands.proofs.Outcome.{Outcome, outcome}
 use Rattle.demands.proofs.Answered.{served-is}
@@ -36,7 +34,7 @@ use Rattle.demands.proofs.Moves.{moved, counter-held, below-16, sound-a
 use Rattle.demands.proofs.Handles.{unnamed-2, names-same, same-parts, last-moved, gone-after, gone, le-then}
 
 -- what a call that served n draws under the handle did for it: that many fewer are left, or it was closed
-pub data Step (h : ℕ) (t u : Table) (n : ℕ) : Type 0 where
+data Step (h : ℕ) (t u : Table) (n : ℕ) : Type 0 where
   goes-on : names u h ≡ true → n + left h u ≡ left h t → Step h t u n
   is-closed : names u h ≡ false → n ≡ 0 → Step h t u n
 
@@ -99,7 +97,7 @@ module _ (h : ℕ) (t : Table) (whole : sound t ≡ true) (is : names t h ≡ tr
       (ap₂ _+_ one (ap (λ (s : Slot). s .interval + 1 - s .counter) new ∙ ap (λ i. i + 1 - s .counter) interval)
       ∙ one-fewer counter due)
 
-  pub call-step : (c : Call) → reseededBy h c (answer t c) ≡ false → Step h t (after t c) (drewBy h c (answer t c))
+  call-step : (c : Call) → reseededBy h c (answer t c) ≡ false → Step h t (after t c) (drewBy h c (answer t c))
   unfolding stepped installed served filled standing
   call-step c quiet = go c (outcome t c) quiet
     where
@@ -109,7 +107,7 @@ module _ (h : ℕ) (t : Table) (whole : sound t ≡ true) (is : names t h ≡ tr
       go (opens m s i f e n p) (serving ok) q = alone h t _ refl is (free-elsewhere _ (may-open ok .slot-free) (lastSerial t + 1))
       go (reseeds handle e a) (serving ok) q =
           step-at handle _ (sym (named-is t handle) ∙ may-reseed ok .named-so)
-          (λ same. absurd (false≢true (sym q ∙ eq-eqb handle h same))) (λ other. refl)
+          (λ same. absurd (false≢true (cc (eq-eqb handle h same)))) (λ other. refl)
       go (draws handle k o a) (serving ok) q =
           let s = slotOf t handle in
           let named = sym (named-is t handle) ∙ may-draw ok .named-so in
@@ -124,16 +122,12 @@ module _ (h : ℕ) (t : Table) (whole : sound t ≡ true) (is : names t h ≡ tr
           (λ other. ap (λ b. cond b 1 0) (ne-eqb handle h other))
       go (freshDraws handle k o e a) (serving ok) q =
           step-at handle _ (sym (named-is t handle) ∙ may-draw-fresh ok .named-so)
-          (λ same. absurd (false≢true (sym q ∙ eq-eqb handle h same))) (λ other. refl)
+          (λ same. absurd (false≢true (cc (eq-eqb handle h same)))) (λ other. refl)
       go (closes handle) (serving ok) q =
           step-at handle freeSlot (sym (named-is t handle) ∙ may-close ok .named-so) (λ same. closed-step refl) (λ other. refl)
       go (inquires handle) (serving ok) q = alone h t t refl is refl
 
 -- no draw is served under a handle that names nothing
-and-false : (b : Bool) → _≡_ {A = ℕ} (cond (b && false) 1 0) 0
-and-false true = refl
-and-false false = refl
-
 unnamed-drew : (h : ℕ) (t : Table) (c : Call) → sound t ≡ true → names t h ≡ false → drewBy h c (answer t c) ≡ 0
 unnamed-drew h t (opens m s i f e n p) whole gone = refl
 unnamed-drew h t (reseeds handle e a) whole gone = refl
@@ -146,7 +140,7 @@ unnamed-drew h t (draws handle s o a) whole gone = go (ℕ-discrete handle h)
     go (yes same) =
         ap (λ k. cond (eqb k 0 && eqb handle h) 1 0)
         (unnamed-2 t handle whole (subst (λ k. names t k ≡ false) (sym same) gone) (draws handle s o a) draw)
-    go (no other) = ap (λ b. cond (eqb n 0 && b) 1 0) (ne-eqb handle h other) ∙ and-false (eqb n 0)
+    go (no other) = ap (λ b. cond (eqb n 0 && b) 1 0) (ne-eqb handle h other) ∙ ap (λ b. cond b 1 0) (and-false (eqb n 0))
 unnamed-drew h t (freshDraws handle s o e a) whole gone = refl
 unnamed-drew h t (closes handle) whole gone = refl
 unnamed-drew h t (inquires handle) whole gone = refl
@@ -170,12 +164,9 @@ step-exact : {h n : ℕ} {t u : Table} (d l : ℕ) → Step h t u n → (names u
 step-exact d l (goes-on named fewer) f g = omega (arith, f named)
 step-exact d l (is-closed unnamed no-draw) f g = absurd (g unnamed)
 
-nothing-less : (n : ℕ) → 0 ≤ n
-nothing-less n = omega arith
-
 -- without a reseed no more draws are served under a handle than were left
 pub draws-most : (h : ℕ) (t : Table) (cs : List Call) → sound t ≡ true → names t h ≡ true → NoReseed h t cs → drawsServed h t cs ≤ left h t
-draws-most h t [] whole is none = nothing-less (left h t)
+draws-most h t [] whole is none = zero-le
 draws-most h t (c ∷ cs) whole is (more quiet rest) =
     step-most (call-step h t whole is c quiet) (λ named. draws-most h (after t c) cs (sound-after t c whole) named rest)
     (none-when-gone h (after t c) cs (sound-after t c whole) (le-then (serial-old h t whole is) (last-moved (moved t c))))

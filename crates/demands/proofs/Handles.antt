@@ -1,63 +1,35 @@
--- Demand 2, handles: a closed handle is answered 2 ever after, one never issued is answered 2, and no two openings get the same.
--- Assumes nothing.
+-- Demand 2, handles: a closed handle is answered 2 ever after, one never issued is answered 2, and no two openings get the same: serials
+-- only rise, and a handle names its slot by its serial. Assumes nothing.
 use mathlib.Core.Path.{_≡_, refl, sym, ap, ap₂, subst, _∙_}
-use mathlib.Core.Bool.{Bool, true, false, false≢true, not, cond}
+use mathlib.Core.Bool.{Bool, true, false, false≢true}
 use mathlib.Core.Logic.{_⊎_, inl, inr, ⊎-elim}
 use mathlib.Core.List.{List, [], _∷_, _++_}
 use Prim.Native.Nat.{ℕ, _+_, _/_, _%_, _≤_, _<_}
 use native.Mathlib.Nat.{le-refl}
 use native.Mathlib.Decide.{ℕ-discrete}
 use native.Mathlib.Omega.{arith}
-use Rattle.slots.specs.Layout.{freeSlot, slotAt, withSlot, lastSerial, freshTable}
+use Rattle.slots.specs.Layout.{freeSlot, slotAt, withSlot, lastSerial, freshTable, Table}
 use Rattle.slots.specs.Sound.{sound}
 use Rattle.slots.specs.Handle.{handleOf, inUse, slotOf, names, named, lowestFree}
 use Rattle.slots.specs.declared.slot.Slot.{Slot}
-use Rattle.slots.specs.Layout.{Table}
 use Rattle.slots.proofs.Slots.{slotAt-same, slotAt-other, lastSerial-withSlot, slotAt-withLastSerial, lastSerial-withLastSerial}
 use Rattle.slots.proofs.Soundness.{sound-has}
-use Rattle.slots.proofs.Handles.{named-is, names-used, names-serial, names-fresh, sound-named, slot-below, handle-serial}
-use Rattle.slots.proofs.Handles.{handle-parts}
-use Rattle.table.specs.Reasons.{Reasons, _when_else_, firstOf}
-use Rattle.table.specs.Answers.{Reply}
-use Rattle.table.specs.Calls.{reseedReasons}
-use Rattle.table.specs.Calls.{drawReasons}
-use Rattle.table.specs.Calls.{freshDrawReasons}
-use Rattle.table.specs.Calls.{closeReasons}
-use Rattle.table.specs.Calls.{inquireReasons}
-use Rattle.table.proofs.Outcomes.{refused-by}
+use Rattle.slots.proofs.Handles.{named-is, names-used, names-serial, names-fresh, sound-named, slot-below, handle-serial, handle-parts}
+use Rattle.table.specs.Calls.{Call, closes, reasonsOf, Under}
+use Rattle.table.proofs.FirstReason.{first-is}
+use Rattle.table.proofs.Exits.{first-unnamed}
 use Rattle.table.proofs.Allowed.{may-close}
 use Rattle.demands.specs.Calls.{answer, number, after, afterAll}
-use Rattle.table.specs.Calls.{Call, closes, reasonsOf}
 use Rattle.demands.specs.Handles.{issuedBy, issued, Listed, here, there, Distinct, Rising}
-use Rattle.table.specs.Calls.{Under, reseed, draw, fresh-draw, close, inquire}
 use Rattle.demands.specs.Handles as H
-use Rattle.table.specs.Calls.{refusal, service}
-use Rattle.demands.proofs.Outcome.{reply-decided}
-use Rattle.demands.proofs.Answered.{served-none}
+use Rattle.demands.proofs.Answered.{number-first, served-none}
 use Rattle.demands.proofs.Kept.{closing-frees}
 use Rattle.demands.proofs.Moves.{Moves, stays, adds, steps, ends, moved, sound-after, sound-after-all, sound-reached}
 
-second : (rest : Reasons) {a b : Bool} → a ≡ true → b ≡ false → 2 ≡ firstOf (1 when not a else 2 when not b else rest)
-unfolding firstOf
-second rest whole none = sym (ap₂ (λ a b. cond (not a) 1 (cond (not b) 2 (firstOf rest))) whole none)
-
-two-not-zero : _≡_ {A = ℕ} 2 0 → ⊥
-two-not-zero h = omega arith
-
-module _ (t : Table) (h : ℕ) (whole : sound t ≡ true) (none : names t h ≡ false) where
-  first-two : {c : Call} → Under h c → 2 ≡ firstOf (reasonsOf t c)
-  unfolding reseedReasons drawReasons freshDrawReasons closeReasons inquireReasons
-  first-two reseed = second _ whole (named-is t h ∙ none)
-  first-two draw = second _ whole (named-is t h ∙ none)
-  first-two fresh-draw = second _ whole (named-is t h ∙ none)
-  first-two close = second _ whole (named-is t h ∙ none)
-  first-two inquire = second _ whole (named-is t h ∙ none)
-
-  -- a handle that names nothing is answered 2
-  pub unnamed-2 : (c : Call) → Under h c → number t c ≡ 2
-  unnamed-2 c under =
-      ap (λ (r : Reply). r .answer .number)
-      (reply-decided t c ∙ sym (refused-by (reasonsOf t c) (refusal t c) (service t c) 2 (first-two under) two-not-zero))
+-- a handle that names nothing is answered 2
+pub unnamed-2 : (t : Table) (h : ℕ) → sound t ≡ true → names t h ≡ false → (c : Call) → Under h c → number t c ≡ 2
+unnamed-2 t h whole none c under =
+    number-first t c (first-is (reasonsOf t c) 1 (sym (first-unnamed t c h under whole (named-is t h ∙ none))))
 
 pub names-same : (t u : Table) (h : ℕ) → slotOf u h ≡ slotOf t h → names u h ≡ names t h
 unfolding names
@@ -192,7 +164,7 @@ serials-rise t (c ∷ cs) = rise (moved t c) (serials-rise (after t c) cs)
 lt-then : {a b c : ℕ} → a < b → b < c → a < c
 lt-then h l = omega arith
 
-above : {n h : ℕ} {hs : List ℕ} → Rising n hs → Listed h hs → n < h / 16
+pub above : {n h : ℕ} {hs : List ℕ} → Rising n hs → Listed h hs → n < h / 16
 above (H.more less r) here = less
 above (H.more less r) (there l) = lt-then less (above r l)
 

@@ -1,61 +1,73 @@
--- The table in the caller's bytes: a refusal changes no byte of it or of the output, and a served call leaves the bytes of its table.
--- So what is proved of calls on tables holds of the bytes. Assumes nothing.
-use Rattle.slots.specs.Sizes.{tableSize}
+-- The table in the caller's bytes: a refusal changes no byte of it or of the output, and a served call leaves the bytes of its table, which
+-- are read back as that table. So what is proved of sequences of calls on tables holds of the bytes, demand 3 too. Assumes nothing.
 use mathlib.Core.Path.{_≡_, refl, sym, ap, ap₂, subst, _∙_}
-use mathlib.Core.Bool.{Bool, true, false, _||_, cond}
+use mathlib.Core.Bool.{Bool, true, false, not, _||_, cond}
 use mathlib.Core.Logic.{_⊎_, inl, inr, ⊎-elim}
 use mathlib.Core.List.{List, [], _∷_, map}
-use Prim.Native.Nat.{ℕ, _+_, _%_, _^_, _<_}
+use Prim.Native.Nat.{ℕ, suc, _+_, _%_, _^_, _<_}
 use native.Mathlib.Omega.{arith}
-use borrow.Author.Tests.{eqb-true, ne-eqb}
+use borrow.Author.Tests.{eqb-true, eqb-false, ne-eqb}
 use lib.Dec.{eqb, lit<}
 use lib.ListN.{length, replicate, length-set}
 use Rattle.standard.specs.Strings.{Bytes}
 use Rattle.standard.proofs.Strings.{bytes-replicate}
+use Rattle.slots.specs.Sizes.{tableSize}
 use Rattle.slots.specs.Layout.{freeSlot, slotAt, withSlot, lastSerial, withLastSerial, freshTable, Table}
 use Rattle.slots.specs.Handle.{lowestFree}
 use Rattle.slots.specs.declared.slot.Slot.{Slot}
 use Rattle.slots.proofs.Flags.{either}
 use Rattle.slots.proofs.Slots.{slotAt-cases, lastSerial-withSlot, lastSerial-withLastSerial}
 use Rattle.slots.proofs.Soundness.{Used}
+use Rattle.slots.specs.Bytes.{tableBytes, tableOf}
+use Rattle.slots.specs.Machine.{Fits, Machine}
+use Rattle.slots.proofs.TableBytes.{length-tableBytes, bytes-tableOf, tableOf-bytes, machine-tableOf, fresh-bytes}
+use Rattle.table.specs.Reasons.{_when_else_, First, this, later}
 use Rattle.table.specs.Answers.{Reply, stepped, installed}
 use Rattle.table.proofs.Outcomes.{refusing, serving}
 use Rattle.table.proofs.Allowed.{may-open}
-use Rattle.slots.specs.Bytes.{tableBytes, tableOf}
-use Rattle.table.specs.OnBytes.{Done, toldRefused, done, inBytes}
-use Rattle.slots.specs.Machine.{Fits, Machine}
-use Rattle.slots.proofs.TableBytes.{length-tableBytes, bytes-tableOf, tableOf-bytes, machine-tableOf, fresh-bytes}
+use Rattle.table.specs.OnBytes.{Done, done, inBytes}
 use Rattle.table.proofs.OnBytes.{replied-on}
+use Rattle.table.specs.Calls.{Call, opens, reseeds, draws, freshDraws, closes, inquires, reasonsOf, reply}
 use Rattle.demands.specs.Calls.{number, after, run}
-use Rattle.table.specs.Calls.{Call, opens, reseeds, draws, freshDraws, closes, inquires, reply, lent}
-use Rattle.demands.specs.InBytes.{inBytesAll}
+use Rattle.demands.specs.Alike.{AllAlike, toldOf, told, toldBy, toldInBytes}
+use Rattle.demands.specs.InBytes.{inBytesAll, reasonsIn, refusalIn, repliedWith}
 use Rattle.demands.proofs.Outcome.{Outcome, outcome}
-use Rattle.demands.proofs.Answered.{refusal-keeps}
+use Rattle.demands.proofs.Answered.{refusal-keeps, answer-first}
 use Rattle.demands.proofs.Moves.{Moves, stays, adds, steps, ends, moved}
+use Rattle.demands.proofs.Alike.{told-is, runs-from-fresh-alike}
 
 module _ (c : Call) (s : List ℕ) where
   -- bytes of any other length are answered 1, and nothing is changed
-  pub other-length : (length s ≡ tableSize → ⊥) → inBytes c s ≡ record { told = toldRefused 1; table = s; output = lent c }
+  pub other-length : (length s ≡ tableSize → ⊥) → inBytes c s ≡ refusalIn s c 1
   unfolding inBytes
   other-length h =
-      ap (λ b. cond b (done (reply (tableOf s) c)) (record { told = toldRefused 1; table = s; output = lent c })) (ne-eqb (length s) tableSize h)
+      ap (λ b. cond b (done (reply (tableOf s) c)) (refusalIn s c 1)) (ne-eqb (length s) tableSize h)
 
-  -- a refusal changes no byte of the table or of the output, and tells 0 blocks and value 0
-  pub refusal-keeps-bytes : Bytes s → (inBytes c s .told .number ≡ 0 → ⊥)
-      → inBytes c s ≡ record { told = toldRefused (inBytes c s .told .number); table = s; output = lent c }
-  unfolding inBytes
+  -- refused by a reason: no byte of the table or of the output is changed, and 0 blocks and value 0 are told
+  pub refusal-keeps-bytes : {n : ℕ} → Bytes s → First n (reasonsIn s c) → inBytes c s ≡ refusalIn s c n
   refusal-keeps-bytes b = go (eqb (length s) tableSize) refl
     where
-      found : Bool → Done
-      found long = cond long (done (reply (tableOf s) c)) (record { told = toldRefused 1; table = s; output = lent c })
+      go : {n : ℕ} (long : Bool) → eqb (length s) tableSize ≡ long → First n (1 when not long else reasonsOf (tableOf s) c)
+          → inBytes c s ≡ refusalIn s c n
+      go {n} true long (later f) =
+          let sized = eqb-true (length s) tableSize long in
+          sym (replied-on c s sized refl)
+          ∙ ap done (refusal-keeps (tableOf s) c f)
+          ∙ ap (λ u. refusalIn u c n) (bytes-tableOf s b sized)
+      go false long this = other-length (eqb-false (length s) tableSize long)
 
-      go : (long : Bool) → eqb (length s) tableSize ≡ long → (found long .told .number ≡ 0 → ⊥)
-          → found long ≡ record { told = toldRefused (found long .told .number); table = s; output = lent c }
-      go true long some =
-          ap done (refusal-keeps (tableOf s) c some) ∙
-          ap (λ u. record { told = toldRefused (number (tableOf s) c); table = u; output = lent c })
-          (bytes-tableOf s b (eqb-true (length s) tableSize long))
-      go false long some = refl
+  -- any number but 0 is that of the first reason that holds
+  pub told-first : (n : ℕ) → inBytes c s .told .number ≡ suc n → First (suc n) (reasonsIn s c)
+  told-first n told = go (eqb (length s) tableSize) refl
+    where
+      go : (long : Bool) → eqb (length s) tableSize ≡ long → First (suc n) (1 when not long else reasonsOf (tableOf s) c)
+      go true long =
+          later
+          (answer-first (tableOf s) c n
+          (ap (λ (d : Done). d .told .number) (replied-on c s (eqb-true (length s) tableSize long) refl) ∙ told))
+      go false long =
+          let one : 1 ≡ suc n = ap (λ (d : Done). d .told .number) (sym (other-length (eqb-false (length s) tableSize long))) ∙ told in
+          subst (λ k. First k (1 when true else reasonsOf (tableOf s) c)) one this
 
 -- every call leaves a table of machine values, so that its bytes are read back as it
 four-most : (n : ℕ) → (eqb n 112 || eqb n 128 || eqb n 192 || eqb n 256) ≡ true → n < 2 ^ 16
@@ -136,13 +148,6 @@ after-in-bytes c s b sized =
     tableOf-bytes (after (tableOf s) c) (machine-after (tableOf s) c (machine-tableOf s b sized))
 
 -- a call by value: its answer is the reply to the table that went in
-abbrev pub repliedWith : Done → Reply
-repliedWith d =
-    record {
-      answer = record { number = d .told .number; table = tableOf (d .table); blocks = d .told .blocks; value = d .told .value };
-      output = d .output;
-    }
-
 pub by-value : (c : Call) (s : List ℕ) (d : Done) → Bytes s → length s ≡ tableSize → d ≡ inBytes c s → repliedWith d ≡ reply (tableOf s) c
 by-value c s d b sized is =
     let t = tableOf s in
@@ -167,3 +172,18 @@ from-zeros cs =
     let zeros = bytes-replicate tableSize 0 (lit< tt) in
     ap (λ s. inBytesAll s cs) (sym (bytes-tableOf (replicate tableSize 0) zeros refl) ∙ ap tableBytes fresh-bytes) ∙
     all-in-bytes freshTable cs (subst Machine fresh-bytes (machine-tableOf (replicate tableSize 0) zeros refl))
+
+-- demand 3 of the caller's bytes: two sequences alike, on bytes that are zero at first, tell the same
+told-of : (r : Reply) → toldBy (done r) ≡ toldOf (r .answer)
+told-of r = told-is (omega arith) (omega arith) (omega arith)
+
+tells : (rs : List Reply) → map toldBy (map done rs) ≡ map (λ (r : Reply). toldOf (r .answer)) rs
+tells [] = refl
+tells (r ∷ rs) = ap₂ _∷_ (told-of r) (tells rs)
+
+told-from-zeros : (cs : List Call) → toldInBytes (replicate tableSize 0) cs ≡ told freshTable cs
+told-from-zeros cs = ap (map toldBy) (from-zeros cs) ∙ tells (run freshTable cs)
+
+pub bytes-from-zeros-alike : {cs ds : List Call} → AllAlike cs ds
+    → toldInBytes (replicate tableSize 0) cs ≡ toldInBytes (replicate tableSize 0) ds
+bytes-from-zeros-alike {cs} {ds} alike = told-from-zeros cs ∙ runs-from-fresh-alike alike ∙ sym (told-from-zeros ds)

@@ -3,7 +3,7 @@
 use mathlib.Core.Path.{_≡_, refl, sym, ap, subst, _∙_}
 use mathlib.Core.Bool.{true, cond}
 use mathlib.Core.List.{List, [], _∷_}
-use Prim.Native.Nat.{ℕ, suc, _+_, _%_, _≤_, _<_}
+use Prim.Native.Nat.{ℕ, zero-le, suc, _+_, _%_, _≤_, _<_}
 use native.Mathlib.Omega.{arith}
 use lib.Dec.{lit<, eqb·suc-zero}
 use lib.ListN.{length}
@@ -11,8 +11,8 @@ use Rattle.standard.specs.State.{State}
 use Rattle.standard.specs.Sha256.{sha256}
 use Rattle.standard.specs.Functions.{Mechanism, HMAC-DRBG, Hash-DRBG}
 use Rattle.standard.specs.Lengths.{Sized, stateBytes}
-use Rattle.standard.proofs.Lengths.{sized-opening, sized-reseeding, sized-draw, sized-freshDraw}
-use Rattle.standard.proofs.Lengths.{counter-opening, counter-reseeding, counter-draw, counter-freshDraw}
+use Rattle.standard.proofs.Lengths.{sized-opening, sized-reseeding, sized-draw, sized-freshDraw, counter-opening, counter-reseeding}
+use Rattle.standard.proofs.Lengths.{counter-draw, counter-freshDraw}
 use Rattle.drbg.specs.Generator.{mechanismOf, stateOf, standing, served, filled}
 use Rattle.drbg.specs.declared.generator.Generator.{Generator}
 use Rattle.slots.specs.Layout.{freeSlot, withSlot, lastSerial, withLastSerial, freshTable, Table}
@@ -26,8 +26,8 @@ use Rattle.table.specs.Served.{mechanismIn, stateIn}
 use Rattle.table.proofs.Outcomes.{refusing, serving}
 use Rattle.table.proofs.Standing.{used-standing, used-new, sized-in}
 use Rattle.table.proofs.Allowed.{may-open, may-reseed, may-draw, may-draw-fresh, may-close}
-use Rattle.demands.specs.Calls.{answer, after, afterAll}
 use Rattle.table.specs.Calls.{Call, opens, reseeds, draws, freshDraws, closes, inquires}
+use Rattle.demands.specs.Calls.{answer, after, afterAll}
 use Rattle.demands.specs.Handles.{issuedBy}
 use Rattle.demands.proofs.Outcome.{Outcome, outcome}
 
@@ -57,14 +57,9 @@ unfolding stateOf
 counter-held HMAC-DRBG g = refl
 counter-held Hash-DRBG g = refl
 
-at-one : {n k : ℕ} → n ≡ 1 → 1 ≤ k → (1 ≤ n) × (n ≤ k + 1)
-at-one e h = (omega arith, omega arith)
-
-at-two : {n k : ℕ} → n ≡ 2 → 1 ≤ k → (1 ≤ n) × (n ≤ k + 1)
-at-two e h = (omega arith, omega arith)
-
-at-next : {n c k : ℕ} → n ≡ c + 1 → c ≤ k → (1 ≤ n) × (n ≤ k + 1)
-at-next e h = (omega arith, omega arith)
+-- a counter one above a number within the interval
+counter-within : (c : ℕ) {n k : ℕ} → n ≡ c + 1 → c ≤ k → (1 ≤ n) × (n ≤ k + 1)
+counter-within c e h = (omega arith, omega arith)
 
 pub below-16 : {n : ℕ} → n ≤ 16 → (n ≡ 16 → ⊥) → n < 16
 below-16 h l = omega (arith, l)
@@ -94,14 +89,14 @@ moved t c = go c (outcome t c)
         let may = may-reseed none in
         step-moves t handle _ (may .sound-so) (may .named-so)
         (λ u. sized-reseeding sha256 (lit< tt) (mechanismIn s) (stateIn s) e a)
-        (λ u. at-one (counter-reseeding sha256 (mechanismIn s) (stateIn s) e a) (u .interval-some))
+        (λ u. counter-within 0 (counter-reseeding sha256 (mechanismIn s) (stateIn s) e a) zero-le)
     go (draws handle k o a) (serving none) =
         let s = slotOf t handle in
         let may = may-draw none in
         step-moves t handle _ (may .sound-so) (may .named-so)
         (λ u. sized-draw sha256 (mechanismIn s) (stateIn s) (length o) a (sized-in (lastSerial t) s u))
         (λ u.
-        at-next
+        counter-within (s .counter)
         (counter-draw sha256 (mechanismIn s) (stateIn s) (length o) a ∙ ap (λ x. x + 1) (counter-held (mechanismIn s) (generatorOf s)))
         (may .not-due))
     go (freshDraws handle k o e a) (serving none) =
@@ -109,7 +104,7 @@ moved t c = go c (outcome t c)
         let may = may-draw-fresh none in
         step-moves t handle _ (may .sound-so) (may .named-so)
         (λ u. sized-freshDraw sha256 (lit< tt) (mechanismIn s) (stateIn s) (length o) e a)
-        (λ u. at-two (counter-freshDraw sha256 (mechanismIn s) (stateIn s) (length o) e a) (u .interval-some))
+        (λ u. counter-within 1 (counter-freshDraw sha256 (mechanismIn s) (stateIn s) (length o) e a) (u .interval-some))
     go (closes handle) (serving none) =
         let may = may-close none in ends handle (may .sound-so) (sym (named-is t handle) ∙ may .named-so)
     go (inquires handle) (serving none) = stays

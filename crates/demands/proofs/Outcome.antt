@@ -1,23 +1,12 @@
 -- The one view of how a call comes out: refused by its first reason, or served. Assumes nothing.
 use mathlib.Core.Path.{_≡_, refl, sym, subst}
-use mathlib.Core.Bool.{Bool, true, false, cond}
-use mathlib.Core.List.{[]}
-use Prim.Native.Nat.{ℕ}
-use lib.Dec.{eqb}
+use mathlib.Core.Bool.{true}
 use Rattle.slots.specs.Layout.{Table}
-use Rattle.table.specs.Reasons.{Reasons, firstOf}
 use Rattle.table.specs.Answers.{Reply, decided}
-use Rattle.table.specs.Calls.{openReasons}
-use Rattle.table.specs.Calls.{reseedReasons}
-use Rattle.table.specs.Calls.{drawReasons}
-use Rattle.table.specs.Calls.{freshDrawReasons}
-use Rattle.table.specs.Calls.{closeReasons}
-use Rattle.table.specs.Calls.{inquireReasons}
-use Rattle.table.specs.Answers.{Answer}
+use Rattle.table.specs.Calls.{openReasons, reseedReasons, drawReasons, freshDrawReasons, closeReasons, inquireReasons, refusal, service}
+use Rattle.table.specs.Calls.{Call, opens, reseeds, draws, freshDraws, closes, inquires, reply, reasonsOf}
 use Rattle.table.proofs.FirstReason.{numbered}
 use Rattle.table.proofs.Outcomes.{Decision, decision}
-use Rattle.table.specs.Calls.{refusal, service}
-use Rattle.table.specs.Calls.{Call, opens, reseeds, draws, freshDraws, closes, inquires, reply, reasonsOf}
 
 abbrev pub Outcome : Table → Call → Reply → Type 0
 Outcome t c = Decision (reasonsOf t c) (refusal t c) (service t c)

@@ -1,19 +1,18 @@
 -- Demand 2, the standard: what a served opening, reseed, draw and fresh draw leave, give out and count is SP 800-90A's function at the
--- state that stands under the handle. Assumes nothing.
+-- state that stands under the handle: services are defined by it, and a state is read back from its slot as it was put in. Assumes nothing.
 use mathlib.Core.Path.{_≡_, refl, sym, ap, _∙_}
 use mathlib.Core.Bool.{Bool, true}
 use mathlib.Core.List.{List}
-use Prim.Native.Nat.{ℕ, _+_, _-_, _%_, _≤_}
+use Prim.Native.Nat.{ℕ, _+_, _-_, _%_}
 use native.Mathlib.Omega.{arith}
-use lib.Dec.{lit<, lit≤}
+use lib.Dec.{lit<}
 use lib.ListN.{length}
 use Rattle.standard.specs.State.{State}
 use Rattle.standard.specs.Sha256.{sha256}
 use Rattle.standard.specs.Functions.{Mechanism, opening, reseeding, draw, freshDraw}
 use Rattle.standard.specs.Lengths.{Sized, stateBytes}
-use Rattle.standard.proofs.Lengths.{sized-opening, sized-reseeding, sized-draw, sized-freshDraw}
-use Rattle.standard.proofs.Lengths.{counter-opening, counter-reseeding, counter-freshDraw}
-use Rattle.standard.proofs.Bound.{bounded}
+use Rattle.standard.proofs.Lengths.{sized-opening, sized-reseeding, sized-draw, sized-freshDraw, counter-opening, counter-reseeding}
+use Rattle.standard.proofs.Lengths.{counter-freshDraw}
 use Rattle.drbg.specs.Generator.{mechanismOf, standing, served, filled}
 use Rattle.drbg.proofs.Standing.{stateOf-standing}
 use Rattle.slots.specs.Layout.{slotAt, withSlot, lastSerial, Table}
@@ -29,8 +28,8 @@ use Rattle.table.specs.Served.{mechanismIn, stateIn}
 use Rattle.table.proofs.Outcomes.{refusing, serving}
 use Rattle.table.proofs.Standing.{sized-in}
 use Rattle.table.proofs.Allowed.{may-open, may-reseed, may-draw, may-draw-fresh}
+use Rattle.table.specs.Calls.{Call, opens, reseeds, draws, freshDraws, reply}
 use Rattle.demands.specs.Calls.{answer, number, after}
-use Rattle.table.specs.Calls.{Call, opens, reseeds, draws, freshDraws, closes, inquires, reply}
 use Rattle.demands.specs.Calls as Calls
 use Rattle.demands.specs.Draws.{left}
 use Rattle.demands.specs.Outcomes.{Follows, Begins}
@@ -157,21 +156,6 @@ module _ (t : Table) (mechanism strength interval : ℕ) (fresh : Bool) (entropy
             ∙ left-new interval (mechanismOf mechanism) entropy nonce personalization;
       }
 
--- close and inquire count no blocks
-pub close-blocks : (t : Table) (h : ℕ) → answer t (closes h) .blocks ≡ 0
-close-blocks t h = go (outcome t (closes h))
-  where
-    go : {r : Reply} → Outcome t (closes h) r → r .answer .blocks ≡ 0
-    go (refusing n f) = refl
-    go (serving none) = refl
-
-pub inquire-blocks : (t : Table) (h : ℕ) → answer t (inquires h) .blocks ≡ 0
-inquire-blocks t h = go (outcome t (inquires h))
-  where
-    go : {r : Reply} → Outcome t (inquires h) r → r .answer .blocks ≡ 0
-    go (refusing n f) = refl
-    go (serving none) = refl
-
 -- open's value is the handle and inquire's the draws left; any other call's is 0
 pub no-value : (t : Table) (c : Call) → Calls.NoValue c → answer t c .value ≡ 0
 unfolding stepped
@@ -183,31 +167,3 @@ no-value t c kind = go kind (outcome t c)
     go Calls.drawing (serving none) = refl
     go Calls.drawing-fresh (serving none) = refl
     go Calls.closing (serving none) = refl
-
--- no call reports more than 8,288 blocks
-pub blocks-most : (t : Table) (c : Call) → answer t c .blocks ≤ 8288
-unfolding stepped installed served filled
-blocks-most t c = go c (outcome t c)
-  where
-    go : (c : Call) {r : Reply} → Outcome t c r → r .answer .blocks ≤ 8288
-    go c (refusing n f) = lit≤ tt
-    go (opens m s i f e n p) (serving none) =
-        let may = may-open none in
-        bounded (mechanismOf m) .opening e n p (may .entropy-most) (may .nonce-most) (may .personalization-most)
-    go (reseeds h e a) (serving none) =
-        let may = may-reseed none in
-        let s = slotOf t h in
-        bounded (mechanismIn s) .reseeding (stateIn s) e a (sized-by t h (may .sound-so) (may .named-so))
-        (may .entropy-most) (may .additional-most)
-    go (draws h k o a) (serving none) =
-        let may = may-draw none in
-        let s = slotOf t h in
-        bounded (mechanismIn s) .draw (stateIn s) (length o) a (sized-by t h (may .sound-so) (may .named-so))
-        (may .request-most) (may .additional-most)
-    go (freshDraws h k o e a) (serving none) =
-        let may = may-draw-fresh none in
-        let s = slotOf t h in
-        bounded (mechanismIn s) .freshDraw (stateIn s) (length o) e a
-        (sized-by t h (may .sound-so) (may .named-so)) (may .request-most) (may .entropy-most) (may .additional-most)
-    go (closes h) (serving none) = lit≤ tt
-    go (inquires h) (serving none) = lit≤ tt

@@ -1,6 +1,6 @@
 -- What a call and a sequence of calls are answered, and the table after them.
-use Prim.Native.Nat.{ℕ, _%_}
 use mathlib.Core.List.{List, [], _∷_}
+use Prim.Native.Nat.{ℕ, _%_}
 use Rattle.slots.specs.Layout.{Table}
 use Rattle.slots.specs.Handle.{lowestFree}
 use Rattle.table.specs.Answers.{Reply, Answer}
@@ -42,15 +42,7 @@ own t (freshDraws handle strength out entropy additional) = handle % 16
 own t (closes handle) = handle % 16
 own t (inquires handle) = handle % 16
 
--- the calls that are no opening
-pub data NoOpening : Call → Type 0 where
-  reseeding : {handle : ℕ} {e a : List ℕ} → NoOpening (reseeds handle e a)
-  drawing : {handle strength : ℕ} {o a : List ℕ} → NoOpening (draws handle strength o a)
-  drawing-fresh : {handle strength : ℕ} {o e a : List ℕ} → NoOpening (freshDraws handle strength o e a)
-  closing : {handle : ℕ} → NoOpening (closes handle)
-  inquiring : {handle : ℕ} → NoOpening (inquires handle)
-
--- and those that give out no value
+-- the calls that give out no value
 pub data NoValue : Call → Type 0 where
   reseeding : {handle : ℕ} {e a : List ℕ} → NoValue (reseeds handle e a)
   drawing : {handle strength : ℕ} {o a : List ℕ} → NoValue (draws handle strength o a)

@@ -1,14 +1,14 @@
 -- The draws that a sequence of calls is served under a handle, and its reseeds.
-use Prim.Native.Nat.{ℕ, _+_, _-_}
 use mathlib.Core.Path.{_≡_}
 use mathlib.Core.Bool.{Bool, false, _&&_, cond}
 use mathlib.Core.List.{List, [], _∷_}
+use Prim.Native.Nat.{ℕ, _+_, _-_}
 use lib.Dec.{eqb}
 use Rattle.slots.specs.Handle.{slotOf}
 use Rattle.slots.specs.Layout.{Table}
 use Rattle.table.specs.Answers.{Answer}
-use Rattle.demands.specs.Calls.{answer, after}
 use Rattle.table.specs.Calls.{Call, opens, reseeds, draws, freshDraws, closes, inquires}
+use Rattle.demands.specs.Calls.{answer, after}
 
 -- draws left = interval + 1 − counter
 abbrev pub left : (handle : ℕ) → Table → ℕ

@@ -3,5 +3,7 @@ pub mod Calls
 pub mod Handles
 pub mod Draws
 pub mod Outcomes
-pub mod Alike
+pub mod Blocks
 pub mod InBytes
+pub mod Alike
+pub mod PLines

@@ -16,6 +16,7 @@ use Rattle.standard.specs.HmacDrbg.{Keyed, kept, update, outputTurns}
 use Rattle.standard.specs.HmacDrbg as HmacDrbg
 use Rattle.standard.specs.Functions.{Mechanism, HMAC-DRBG, Hash-DRBG, opening, reseeding, draw, freshDraw}
 use Rattle.standard.specs.Strings.{Bytes}
+use Rattle.standard.specs.Lengths.{OfBytes}
 use Rattle.standard.proofs.Strings.{bytes-nil, bytes-cons, bytes-append, bytes-take, bytes-drop, bytes-replicate, bytes-map}
 use Rattle.standard.proofs.Strings.{bytes-bytesOf, cond-both, ifNull-both}
 use Rattle.standard.proofs.Lengths.{key-bytes}
@@ -90,11 +91,6 @@ module _ (H : Hash) where
   unfolding outputTurns
   bytes-outputTurns K v zero = bytes-nil
   bytes-outputTurns K v (suc i) = bytes-append (bytes-outputTurns K v i) (bytes-hmac K _)
-
--- a state whose two fields are of bytes
-pub record OfBytes (s : State) : Type 0 where
-  pub first : Bytes (s .first)
-  pub second : Bytes (s .second)
 
 module _ (H : Hash) where
   pub of-bytes-update : (provided : List ℕ) (u : Keyed) (counter : ℕ) → OfBytes (kept (update H provided u .value) counter)

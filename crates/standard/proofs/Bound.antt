@@ -1,8 +1,8 @@
 -- No function of either mechanism over SHA-256 consumes more than 8,288 blocks, within the limits of document 01.
 -- Assumes those limits, and the lengths of a state's fields.
 use mathlib.Core.Path.{_≡_, ap, _∙_}
-use Prim.Native.Nat.{ℕ, zero, suc, _≤_}
 use mathlib.Core.List.{List, _++_}
+use Prim.Native.Nat.{ℕ, zero, suc, _≤_}
 use native.Mathlib.Omega.{arith}
 use lib.Dec.{lit<}
 use lib.ListN.{length, length-append}
@@ -10,8 +10,8 @@ use Rattle.standard.specs.Strings.{ceiling}
 use Rattle.standard.specs.State.{State}
 use Rattle.standard.specs.Sha256.{sha256}
 use Rattle.standard.specs.Functions.{Mechanism, HMAC-DRBG, Hash-DRBG, opening, reseeding, draw, freshDraw}
-use Rattle.standard.specs.Lengths.{Sized, stateBytes}
-use Rattle.standard.specs.Blocks.{updateCount, openCount, reseedCount, drawCount}
+use Rattle.standard.specs.Lengths.{Sized}
+use Rattle.standard.specs.Blocks.{updateCount, openCount, reseedCount, drawCount, Bounded}
 use Rattle.standard.proofs.Counts.{opening-blocks, reseeding-blocks, draw-blocks, freshDraw-blocks}
 
 update-bound : (d : ℕ) → d ≤ 2048 → updateCount sha256 d ≤ 80
@@ -37,17 +37,6 @@ draw-bound HMAC-DRBG b zero h l = omega arith
 draw-bound HMAC-DRBG b (suc a) h l = omega arith
 draw-bound Hash-DRBG b zero h l = omega arith
 draw-bound Hash-DRBG b (suc a) h l = omega arith
-
--- what document 01 lets each function be given, and the bound on its blocks
-pub record Bounded (mechanism : Mechanism) : Type 0 where
-  pub opening : (entropy nonce personalization : List ℕ) → length entropy ≤ 1024 → length nonce ≤ 64 → length personalization ≤ 512
-      → opening sha256 mechanism entropy nonce personalization .blocks ≤ 8288
-  pub reseeding : (s : State) (entropy additional : List ℕ) → Sized (stateBytes sha256 mechanism) s
-      → length entropy ≤ 1024 → length additional ≤ 1024 → reseeding sha256 mechanism s entropy additional .blocks ≤ 8288
-  pub draw : (s : State) (n : ℕ) (additional : List ℕ) → Sized (stateBytes sha256 mechanism) s → n ≤ 65536 → length additional ≤ 1024
-      → draw sha256 mechanism s n additional .blocks ≤ 8288
-  pub freshDraw : (s : State) (n : ℕ) (entropy additional : List ℕ) → Sized (stateBytes sha256 mechanism) s → n ≤ 65536
-      → length entropy ≤ 1024 → length additional ≤ 1024 → freshDraw sha256 mechanism s n entropy additional .blocks ≤ 8288
 
 pub bounded : (mechanism : Mechanism) → Bounded mechanism
 bounded mechanism =

@@ -13,7 +13,7 @@ use Rattle.standard.specs.Metered.{_>>=_}
 use Rattle.standard.specs.Strings.{bytesOf, ceiling, ifNull}
 use Rattle.standard.specs.Hash.{Hash, Eight, blockBytes, outBytes, lengthBytes, absorbed, hash}
 use Rattle.standard.specs.Sha256.{sha256}
-use Rattle.standard.specs.Hmac.{Key, xored, key, hmac, rekey}
+use Rattle.standard.specs.Hmac.{Key, ipad, opad, xored, key, hmac, rekey}
 use Rattle.standard.specs.HashDf.{hashDfTurns, hashDf}
 use Rattle.standard.specs.State.{State}
 use Rattle.standard.specs.HashDrbg.{seedBytes, seeded, hashgenTurns, hashgen, refreshed}
@@ -23,15 +23,15 @@ use Rattle.standard.specs.HmacDrbg as HmacDrbg
 use Rattle.standard.specs.Functions.{Mechanism, HMAC-DRBG, Hash-DRBG, opening, reseeding, draw, freshDraw}
 use Rattle.standard.proofs.Strings.{length-bytesOf, ceiling-unique}
 use Rattle.standard.proofs.Lengths.{blocks-padded, length-K₀, length-xored, length-hash, length-hmac, length-K₀-rekey}
+use Rattle.standard.proofs.Lengths.{length-data-hashgenTurns, length-V-outputTurns, length-hashDf, length-refreshed, ready-key}
+use Rattle.standard.proofs.Lengths.{ready-taken, ready-update, sized-reseeding}
 use Rattle.standard.specs.Lengths.{Ready, Sized, stateBytes}
-use Rattle.standard.proofs.Lengths.{length-data-hashgenTurns, length-V-outputTurns, length-hashDf, length-refreshed}
-use Rattle.standard.proofs.Lengths.{ready-key, ready-taken, ready-update, sized-reseeding}
 use Rattle.standard.specs.Blocks.{hashCount, hmacCount, updateCount, openCount, reseedCount, drawCount, freshDrawCount}
 
 pub absorbed-blocks : (H : Hash) (m : List ℕ) (n : ℕ) (s : Eight) → absorbed H m n s .blocks ≡ n
 unfolding absorbed
 absorbed-blocks H m zero s = refl
-absorbed-blocks H m (suc n) s = add-one _ ∙ ap suc (absorbed-blocks H m n s)
+absorbed-blocks H m (suc n) s = omega (arith, absorbed-blocks H m n s)
 
 module _ (H : Hash) (w : 0 < H .wordBytes) where
   block-positive : 0 < blockBytes H
@@ -55,8 +55,8 @@ module _ (H : Hash) (w : 0 < H .wordBytes) where
   pub hmac-blocks : (K : Key) (text : List ℕ) → length (K .K₀) ≡ blockBytes H → hmac H K text .blocks ≡ hmacCount H (length text)
   unfolding hmac
   hmac-blocks K text h =
-      ap₂ _+_ (hash-prefixed-blocks (xored 0x36 (K .K₀)) text (length-xored 0x36 (K .K₀) ∙ h))
-      (hash-prefixed-blocks (xored 0x5c (K .K₀)) _ (length-xored 0x5c (K .K₀) ∙ h))
+      ap₂ _+_ (hash-prefixed-blocks (xored ipad (K .K₀)) text (length-xored ipad (K .K₀) ∙ h))
+      (hash-prefixed-blocks (xored opad (K .K₀)) _ (length-xored opad (K .K₀) ∙ h))
       ∙ rw (length-hash, digest-fits) (omega arith)
 
   pub hmac-digest-blocks : (K : Key) (v : List ℕ) → length (K .K₀) ≡ blockBytes H → length v ≡ outBytes H → hmac H K v .blocks ≡ 4

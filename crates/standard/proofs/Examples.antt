@@ -1,47 +1,24 @@
--- The examples of FIPS 180-4 for SHA-256, computed from the definitions: a message of one block and one of two.
--- Assumes nothing.
+-- The published examples hold of the definitions, by computation: nobody has to take the definitions on trust. Assumes nothing.
 use mathlib.Core.Path.{_≡_, refl}
-use mathlib.Core.List.{List, [], _∷_}
-use Prim.Native.Nat.{ℕ}
-use Rattle.standard.specs.Metered.{Metered}
+use Rattle.standard.specs.Metered.{_>>=_}
 use Rattle.standard.specs.Strings.{numberOf, bytesOf}
-use Rattle.standard.specs.Hash.{hash, absorbed, compressed, added, turns, turn, T₁, T₂, schedule, scheduleWord, wordAt, blockAt, padded, padding, zeros, digest}
+use Rattle.standard.specs.Hash.{hash, absorbed, compressed, added, turns, turn, T₁, T₂, schedule, scheduleWord, wordAt, blockAt}
+use Rattle.standard.specs.Hash.{padded, padding, zeros, digest}
 use Rattle.standard.specs.Sha256.{sha256, K256, initial256}
-
--- "abc"
-unfoldable pub abc : List ℕ
-abc = 0x61 ∷ 0x62 ∷ 0x63 ∷ []
-
-unfoldable pub abc-hash : Metered (List ℕ)
-abc-hash =
-    record {
-      value =
-          0xba ∷ 0x78 ∷ 0x16 ∷ 0xbf ∷ 0x8f ∷ 0x01 ∷ 0xcf ∷ 0xea ∷ 0x41 ∷ 0x41 ∷ 0x40 ∷ 0xde ∷ 0x5d ∷ 0xae ∷ 0x22 ∷ 0x23 ∷
-          0xb0 ∷ 0x03 ∷ 0x61 ∷ 0xa3 ∷ 0x96 ∷ 0x17 ∷ 0x7a ∷ 0x9c ∷ 0xb4 ∷ 0x10 ∷ 0xff ∷ 0x61 ∷ 0xf2 ∷ 0x00 ∷ 0x15 ∷ 0xad ∷ [];
-      blocks = 1;
-    }
-
--- "abcdbcdecdefdefgefghfghighijhijkijkljklmklmnlmnomnopnopq", 56 bytes
-unfoldable pub two-blocks : List ℕ
-two-blocks =
-    0x61 ∷ 0x62 ∷ 0x63 ∷ 0x64 ∷ 0x62 ∷ 0x63 ∷ 0x64 ∷ 0x65 ∷ 0x63 ∷ 0x64 ∷ 0x65 ∷ 0x66 ∷ 0x64 ∷ 0x65 ∷ 0x66 ∷ 0x67 ∷
-    0x65 ∷ 0x66 ∷ 0x67 ∷ 0x68 ∷ 0x66 ∷ 0x67 ∷ 0x68 ∷ 0x69 ∷ 0x67 ∷ 0x68 ∷ 0x69 ∷ 0x6a ∷ 0x68 ∷ 0x69 ∷ 0x6a ∷ 0x6b ∷
-    0x69 ∷ 0x6a ∷ 0x6b ∷ 0x6c ∷ 0x6a ∷ 0x6b ∷ 0x6c ∷ 0x6d ∷ 0x6b ∷ 0x6c ∷ 0x6d ∷ 0x6e ∷ 0x6c ∷ 0x6d ∷ 0x6e ∷ 0x6f ∷
-    0x6d ∷ 0x6e ∷ 0x6f ∷ 0x70 ∷ 0x6e ∷ 0x6f ∷ 0x70 ∷ 0x71 ∷ []
-
-unfoldable pub two-blocks-hash : Metered (List ℕ)
-two-blocks-hash =
-    record {
-      value =
-          0x24 ∷ 0x8d ∷ 0x6a ∷ 0x61 ∷ 0xd2 ∷ 0x06 ∷ 0x38 ∷ 0xb8 ∷ 0xe5 ∷ 0xc0 ∷ 0x26 ∷ 0x93 ∷ 0x0c ∷ 0x3e ∷ 0x60 ∷ 0x39 ∷
-          0xa3 ∷ 0x3c ∷ 0xe4 ∷ 0x59 ∷ 0x64 ∷ 0xff ∷ 0x21 ∷ 0x67 ∷ 0xf6 ∷ 0xec ∷ 0xed ∷ 0xd4 ∷ 0x19 ∷ 0xdb ∷ 0x06 ∷ 0xc1 ∷ [];
-      blocks = 2;
-    }
+use Rattle.standard.specs.Hmac.{key, hmac, filled, xored}
+use Rattle.standard.specs.Vectors.{abc, abc-hash, two-blocks, two-blocks-hash, jefe-key, jefe-text, jefe-hmac}
 
 pub abc-example : hash sha256 abc ≡ abc-hash
-unfolding hash absorbed compressed added turns turn T₁ T₂ schedule scheduleWord wordAt blockAt padded padding zeros digest numberOf bytesOf K256 initial256 abc abc-hash
+unfolding hash absorbed compressed added turns turn T₁ T₂ schedule scheduleWord wordAt blockAt padded padding zeros digest
+    numberOf bytesOf K256 initial256 abc abc-hash
 abc-example = refl
 
 pub two-blocks-example : hash sha256 two-blocks ≡ two-blocks-hash
-unfolding hash absorbed compressed added turns turn T₁ T₂ schedule scheduleWord wordAt blockAt padded padding zeros digest numberOf bytesOf K256 initial256 two-blocks two-blocks-hash
+unfolding hash absorbed compressed added turns turn T₁ T₂ schedule scheduleWord wordAt blockAt padded padding zeros digest
+    numberOf bytesOf K256 initial256 two-blocks two-blocks-hash
 two-blocks-example = refl
+
+pub hmac-example : (key sha256 jefe-key >>= λ K. hmac sha256 K jefe-text) ≡ jefe-hmac
+unfolding hash absorbed compressed added turns turn T₁ T₂ schedule scheduleWord wordAt blockAt padded padding zeros digest
+    numberOf bytesOf K256 initial256 key hmac filled xored jefe-key jefe-text jefe-hmac
+hmac-example = refl

@@ -1,27 +1,29 @@
 -- The hash, one step at a time: one more turn, one more word of the schedule, one more block. Assumes nothing.
-use mathlib.Core.Path.{_≡_, refl, sym, ap, ap₂, _∙_}
+use mathlib.Core.Path.{_≡_, refl, sym, ap₂, _∙_}
 use mathlib.Core.List.{List, [], _∷_, _++_}
-use Prim.Native.Nat.{ℕ, zero, suc, _+_, _-_, _*_, _/_, _^_, _≤_, _<_}
+use Prim.Native.Nat.{ℕ, zero, suc, _+_, _-_, _*_, _≤_, _<_}
 use native.Mathlib.Numerals.{add-one}
 use native.Mathlib.Omega.{arith}
-use borrow.Author.Tests.{lt-ltb, le-ltb}
-use lib.ListN.{length, getD, take, drop, set, length-append, length-drop}
 use native.Mathlib.Nat.{mul-suc, mul-le-mul-left, le-trans}
+use borrow.Author.Tests.{lt-ltb, le-ltb}
+use lib.ListN.{length, getD, take, drop, set, length-drop}
 use lib.Seq.{take-suc-set, getD-take, drop-append-le, take-append-le}
-use Rattle.standard.specs.Metered.{Metered}
 use Rattle.standard.specs.Words.{σ}
-use Rattle.standard.specs.Hash.{Hash, Eight, wordBits, blockBytes, plus, wordAt, blockAt, schedule, scheduleWord, turn, turns, compressed, absorbed}
+use Rattle.standard.specs.Hash.{Hash, Eight, wordBits, blockBytes, plus, wordAt, blockAt, schedule, scheduleWord, turn, turns}
+use Rattle.standard.specs.Hash.{compressed, absorbed}
 
 module _ (H : Hash) where
   pub turns-more : (W : List ℕ) (t : ℕ) (s : Eight) → turns H W (t + 1) s ≡ turn H (turns H W t s) (getD (H .K) t 0) (getD W t 0)
   unfolding turns
   turns-more W t s = rw add-one
 
-  pub schedule-more : (block : List ℕ) (t : ℕ) → schedule H block (t + 1) ≡ schedule H block t ++ (scheduleWord H block (schedule H block t) t ∷ [])
+  pub schedule-more : (block : List ℕ) (t : ℕ)
+      → schedule H block (t + 1) ≡ schedule H block t ++ (scheduleWord H block (schedule H block t) t ∷ [])
   unfolding schedule
   schedule-more block t = rw add-one
 
-  pub absorbed-more : (m : List ℕ) (i : ℕ) (s : Eight) → absorbed H m (i + 1) s .value ≡ compressed H (absorbed H m i s .value) (blockAt H m i)
+  pub absorbed-more : (m : List ℕ) (i : ℕ) (s : Eight)
+      → absorbed H m (i + 1) s .value ≡ compressed H (absorbed H m i s .value) (blockAt H m i)
   unfolding absorbed
   absorbed-more m i s = rw add-one
 
@@ -41,7 +43,9 @@ module _ (H : Hash) where
     -- §6.2.2, 1, for t from 16 on
     pub later-word-stored :
         16 ≤ t →
-        v ≡ plus H (plus H (plus H (σ (wordBits H) (H .σ₁) (getD w (t - 2) 0)) (getD w (t - 7) 0)) (σ (wordBits H) (H .σ₀) (getD w (t - 15) 0))) (getD w (t - 16) 0) →
+        v ≡ plus H
+        (plus H (plus H (σ (wordBits H) (H .σ₁) (getD w (t - 2) 0)) (getD w (t - 7) 0)) (σ (wordBits H) (H .σ₀) (getD w (t - 15) 0)))
+        (getD w (t - 16) 0) →
         take (t + 1) (set w t v) ≡ schedule H block (t + 1)
     unfolding scheduleWord
     later-word-stored many e =

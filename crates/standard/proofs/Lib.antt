@@ -7,4 +7,3 @@ pub mod Lengths
 pub mod AllBytes
 pub mod Counts
 pub mod Bound
-pub mod PLines

@@ -1,14 +1,13 @@
 -- Laws of strings of bytes: their lengths, bytes below 256, the number that a string is and back, ceilings, and the case of the
 -- empty string. Assumes nothing.
 use mathlib.Core.Path.{_≡_, refl, sym, ap, ap₂, _∙_}
-use mathlib.Core.List.{List, [], _∷_, _++_, map, append-assoc, append-nil}
 use mathlib.Core.Bool.{Bool, true, false, cond}
+use mathlib.Core.List.{List, [], _∷_, _++_, map, append-assoc, append-nil}
 use Prim.Native.Nat.{ℕ, zero, suc, _+_, _-_, _*_, _/_, _%_, _^_, _≤_, _<_, suc-le-suc}
 use native.Mathlib.Nat.{add-assoc, add-mul, add-right-comm, add-suc, add-zero, mul-assoc, mul-suc, mul-one, not-suc-le-zero, one-mul}
-use native.Mathlib.Nat.{sub-zero, zero-add, zero-lt-suc, zero-mul}
-use native.Mathlib.Nat.{add-div-right, div-add-mod', div-div-eq-div-mul, div-eq-of-lt-le, div-mul-le-self, div-one}
-use native.Mathlib.Nat.{le-div-iff-mul-le, lt-div-mul-add, mod-eq-of-lt, mod-lt, mod-one, mod-self, mul-add-div-right}
-use native.Mathlib.Nat.{mul-add-mod-self-right, one-le-pow, pow-suc, pow-succ', pow-zero}
+use native.Mathlib.Nat.{sub-zero, zero-add, zero-lt-suc, zero-mul, add-div-right, div-add-mod', div-div-eq-div-mul, div-eq-of-lt-le}
+use native.Mathlib.Nat.{div-mul-le-self, div-one, le-div-iff-mul-le, lt-div-mul-add, mod-eq-of-lt, mod-lt, mod-one, mod-self}
+use native.Mathlib.Nat.{mul-add-div-right, mul-add-mod-self-right, one-le-pow, pow-suc, pow-succ', pow-zero}
 use native.Mathlib.Numerals.{add-one, one-add}
 use native.Mathlib.Omega.{arith}
 use lib.Arith.{digits-lt, digits-div, mod-mul}

@@ -2,7 +2,7 @@
 -- Differs from the document: the checks of each function and the entropy itself come from the caller.
 use Prim.Native.Nat.{ℕ}
 use mathlib.Core.List.{List, []}
-use Rattle.standard.specs.Metered.{Metered, return, _>>=_}
+use Rattle.standard.specs.Metered.{Metered, _>>=_}
 use Rattle.standard.specs.Hash.{Hash}
 use Rattle.standard.specs.State.{State, Drawn}
 use Rattle.standard.specs.HashDrbg as HashDrbg

@@ -1,7 +1,7 @@
 -- SP 800-90A §10.3.1: the derivation function using a hash function, Hash_df.
 -- Differs from the document: lengths are in bytes; the number of turns is the ceiling, as in the published text.
 use Prim.Native.Nat.{ℕ, zero, suc, _+_, _*_}
-use mathlib.Core.List.{List, [], _∷_, _++_}
+use mathlib.Core.List.{List, [], _++_}
 use lib.ListN.{take}
 use Rattle.standard.specs.Metered.{Metered, return, _>>=_}
 use Rattle.standard.specs.Strings.{bytesOf, ceiling}

@@ -14,7 +14,14 @@ pub record Key : Type 0 where
   pub bytes : List ℕ
   pub K₀ : List ℕ
 
--- the pads' bytes xored to K₀ (table 1, steps 4 and 7; §2.3: ipad is 36, opad 5C)
+-- §2.3: the byte of the inner pad, and of the outer
+abbrev pub ipad : ℕ
+ipad = 0x36
+
+abbrev pub opad : ℕ
+opad = 0x5c
+
+-- a pad xored to K₀ (table 1, steps 4 and 7)
 unfoldable pub xored : (pad : ℕ) → List ℕ → List ℕ
 xored pad s = map (λ b. bitXor b pad) s
 
@@ -35,8 +42,8 @@ module _ (H : Hash) where
   -- table 1, steps 4 to 9
   unfoldable pub hmac : Key → List ℕ → Metered (List ℕ)
   hmac K text = do
-    inner ← hash H (xored 0x36 (K .K₀) ++ text)
-    hash H (xored 0x5c (K .K₀) ++ inner)
+    inner ← hash H (xored ipad (K .K₀) ++ text)
+    hash H (xored opad (K .K₀) ++ inner)
 
   -- K = HMAC (K, text), made ready
   unfoldable pub rekey : Key → List ℕ → Metered Key

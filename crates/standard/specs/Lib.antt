@@ -12,3 +12,4 @@ pub mod HmacDrbg
 pub mod Functions
 pub mod Lengths
 pub mod Blocks
+pub mod Vectors

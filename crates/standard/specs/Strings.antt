@@ -1,4 +1,4 @@
--- Strings of whole bytes, and numbers as strings: FIPS 180-4 §3.1, SP 800-90A §10.3 and appendix A of its notation.
+-- Strings of whole bytes, and numbers as strings: FIPS 180-4 §3.1, SP 800-90A appendix A.
 -- Differs from the documents: a string is a list of bytes and not of bits; a byte is a number, and `Bytes` says that it is below 256.
 use Prim.Native.Nat.{ℕ, zero, suc, _+_, _-_, _*_, _/_, _%_, _^_, _<_}
 use mathlib.Core.List.{List, [], _∷_, _++_}
