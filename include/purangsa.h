@@ -140,7 +140,8 @@ uint64_t purangsa_inquire(const uint8_t *table, size_t table_length, uint64_t ha
 
 /* Clears what the call before it has left behind: PURANGSA_WIPED bytes of dead stack below its caller's frame, more than the deepest
  * call takes, and the registers that a call need not keep, the vector registers in their whole width among them. Call it after each call,
- * from the same function: a function further out has a frame of its own above what was left. It changes nothing else, and always ends.
+ * from the same function: from one further in it would begin below a part of what was left, from one further out it might end above a
+ * part. It changes nothing else. Which registers there are is asked of the processor once, when the program starts.
  *
  * It does not clear the caller's own copies of what it lent and drew, nor the table; nor what was copied deeper or elsewhere while a call
  * ran: by a signal that is handled on the same stack, by a switch to another thread, to swap or a core file; nor what the dynamic linker
