@@ -79,19 +79,39 @@ static uint8_t text[64 * BLOCKS];
 static uint64_t our_compressions(void) { return purangsa_bare(text, sizeof text); }
 static uint64_t portable_compressions(void) { return portable_bare(text, sizeof text); }
 
+/* What purangsa_wipe takes, beside a memset of as many bytes by the C library, which clears no register. */
+enum { WIPES = 50 };
+
+static uint64_t our_wipes(void)
+{
+    for (int i = 0; i < WIPES; i++)
+        purangsa_wipe();
+    return 0;
+}
+
+static uint64_t memsets(void)
+{
+    static uint8_t cleared[PURANGSA_WIPED];
+    for (int i = 0; i < WIPES; i++) {
+        memset(cleared, 0, sizeof cleared);
+        __asm__ volatile("" : : "r"(cleared) : "memory");
+    }
+    return 0;
+}
+
 /* What a row draws: times draws of length bytes, each whole or in the pieces that mbedTLS takes. */
 struct size {
     size_t length;
     int times, repetitions; /* a long draw takes milliseconds, a short one microseconds: a repetition has many of these */
 };
-static const struct size sizes[] = { { 16, 50, 1000 }, { 32, 50, 1000 }, { 1024, 10, 600 }, { 65536, 1, 400 } };
+static const struct size sizes[] = { { 16, 50, 1000 }, { 32, 50, 1000 }, { 1024, 10, 600 }, { PURANGSA_MOST_REQUEST, 1, 400 } };
 enum { SIZES = sizeof sizes / sizeof sizes[0], LABEL = 0, LONGEST = SIZES - 1 };
 
 static const struct source *ours, *theirs;
 static uint8_t mechanism;
 static size_t length, piece;
 static int times;
-static uint8_t our_out[65536], their_out[65536];
+static uint8_t our_out[PURANGSA_MOST_REQUEST], their_out[PURANGSA_MOST_REQUEST];
 
 static void draw_in_pieces(const struct source *s, uint8_t *out, size_t most)
 {
@@ -152,7 +172,7 @@ static uint64_t bare_blocks(void)
 static const char *row_name(const char *of, const char *beside)
 {
     static char name[120];
-    snprintf(name, sizeof name, "%s\t%s\t%zu\t%s", of, mechanism == 1 ? "HMAC" : "Hash", length, beside);
+    snprintf(name, sizeof name, "%s\t%s\t%zu\t%s", of, mechanism == PURANGSA_HMAC_DRBG ? "HMAC" : "Hash", length, beside);
     return name;
 }
 
@@ -202,18 +222,21 @@ static void beside(const struct size *s, uint8_t m, const struct source *t, cons
 /* What is promised, 0 for nothing: through the library (issue 6), and for the draw by itself (issue 3). */
 static double most_beside_bare(size_t i) { return i == LABEL ? 1.4 : i == LONGEST ? 1.15 : 0; }
 static double most_beside_mbedtls(size_t i) { return i == LONGEST ? 1.1 : 0; }
-static double most_beside_openssl(size_t i, uint8_t m) { return i == LONGEST && m == 2 ? 1.0 : 0; }
+static double most_beside_openssl(size_t i, uint8_t m) { return i == LONGEST && m == PURANGSA_HASH_DRBG ? 1.0 : 0; }
 
 static void rows(void)
 {
     row("compression\t\t\tportable C", our_compressions, portable_compressions, 2000, BLOCKS, 1.1);
-    for (uint8_t m = 1; m <= 2; m++) {
+    char wipe[80];
+    snprintf(wipe, sizeof wipe, "wipe\t\t%d\tmemset of as many bytes", PURANGSA_WIPED);
+    row(wipe, our_wipes, memsets, 2000, WIPES, 0);
+    for (uint8_t m = PURANGSA_HMAC_DRBG; m <= PURANGSA_HASH_DRBG; m++) {
         beside_bare(&sizes[LABEL], m, &alone, 1.3);
         beside_bare(&sizes[LONGEST], m, &alone, 1.15);
         for (size_t i = 0; i < SIZES; i++) {
             beside_bare(&sizes[i], m, &library, most_beside_bare(i));
             beside(&sizes[i], m, &portable, "portable C", 0);
-            if (m == 1)
+            if (m == PURANGSA_HMAC_DRBG)
                 beside(&sizes[i], m, &mbedtls, "mbedTLS", most_beside_mbedtls(i));
             beside(&sizes[i], m, &openssl, "OpenSSL", 0);
         }
@@ -222,7 +245,7 @@ static void rows(void)
 
 static void more_rows(void)
 {
-    for (uint8_t m = 1; m <= 2; m++)
+    for (uint8_t m = PURANGSA_HMAC_DRBG; m <= PURANGSA_HASH_DRBG; m++)
         for (size_t i = 0; i < SIZES; i++)
             beside(&sizes[i], m, &openssl, "OpenSSL without SHA extensions", most_beside_openssl(i, m));
 }

@@ -2,6 +2,8 @@
 #include <stddef.h>
 #include <stdint.h>
 
+#include "purangsa.h"
+
 /* crates/bench_bare: a slice is a pointer and a length */
 uint32_t purangsa_bare(const uint8_t *text, size_t length);
 
@@ -9,7 +11,7 @@ uint32_t purangsa_bare(const uint8_t *text, size_t length);
  * same bytes. A draw gives the blocks that it reports, 0 where it reports none, and is of `most` bytes at most. */
 struct source {
     const char *name;
-    void (*open)(uint8_t mechanism); /* 1: HMAC_DRBG, 2: Hash_DRBG */
+    void (*open)(uint8_t mechanism); /* PURANGSA_HMAC_DRBG or PURANGSA_HASH_DRBG */
     uint64_t (*draw)(uint8_t *out, size_t length);
     size_t most;
 };

@@ -31,7 +31,7 @@ static void mbedtls_open(uint8_t mechanism)
 {
     static int opened;
     int calls = 0;
-    if (mechanism != 1)
+    if (mechanism != PURANGSA_HMAC_DRBG)
         fail("mbedTLS has no Hash_DRBG");
     if (opened)
         mbedtls_hmac_drbg_free(&drbg);
@@ -51,7 +51,7 @@ static uint64_t mbedtls_draw(uint8_t *out, size_t length)
 
 const struct source mbedtls = { "mbedTLS", mbedtls_open, mbedtls_draw, MBEDTLS_HMAC_DRBG_MAX_REQUEST };
 
-enum { STRENGTH = 256 };
+enum { STRENGTH = PURANGSA_MOST_STRENGTH };
 static EVP_RAND_CTX *generator;
 
 static EVP_RAND_CTX *context(const char *name, EVP_RAND_CTX *parent)
@@ -82,13 +82,13 @@ static void openssl_open(uint8_t mechanism)
         OSSL_PARAM_construct_end(),
         OSSL_PARAM_construct_end(),
     };
-    if (mechanism == 1)
+    if (mechanism == PURANGSA_HMAC_DRBG)
         kind[3] = OSSL_PARAM_construct_utf8_string(OSSL_DRBG_PARAM_MAC, mac, 0);
 
     EVP_RAND_CTX *parent = context("TEST-RAND", NULL);
     if (!EVP_RAND_CTX_set_params(parent, lent) || !EVP_RAND_instantiate(parent, STRENGTH, 0, NULL, 0, NULL))
         fail("OpenSSL's entropy is not lent");
-    EVP_RAND_CTX *c = context(mechanism == 1 ? "HMAC-DRBG" : "HASH-DRBG", parent);
+    EVP_RAND_CTX *c = context(mechanism == PURANGSA_HMAC_DRBG ? "HMAC-DRBG" : "HASH-DRBG", parent);
     if (!EVP_RAND_CTX_set_params(c, kind)
         || !EVP_RAND_instantiate(c, STRENGTH, 0, (const unsigned char *)"", 0, NULL))
         fail("OpenSSL does not open");
@@ -104,7 +104,7 @@ static uint64_t openssl_draw(uint8_t *out, size_t length)
     return 0;
 }
 
-const struct source openssl = { "OpenSSL", openssl_open, openssl_draw, 65536 };
+const struct source openssl = { "OpenSSL", openssl_open, openssl_draw, PURANGSA_MOST_REQUEST };
 
 static struct portable plain;
 
@@ -122,7 +122,7 @@ static uint64_t plain_draw(uint8_t *out, size_t length)
     return 0;
 }
 
-const struct source portable = { "portable C", plain_open, plain_draw, 65536 };
+const struct source portable = { "portable C", plain_open, plain_draw, PURANGSA_MOST_REQUEST };
 
 void print_versions(void)
 {

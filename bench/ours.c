@@ -2,7 +2,6 @@
 #include <string.h>
 
 #include "bench.h"
-#include "purangsa.h"
 
 const uint8_t entropy[ENTROPY] = {
     0x00, 0x01, 0x02, 0x03, 0x04, 0x05, 0x06, 0x07, 0x08, 0x09, 0x0a, 0x0b, 0x0c, 0x0d, 0x0e, 0x0f,
@@ -13,8 +12,7 @@ const uint8_t nonce[NONCE] = {
 };
 
 /* All slots are in use, by both mechanisms in turn, so that each of them is looked at before each draw. */
-enum { SLOTS = 16, STRENGTH = 256 };
-static const uint64_t INTERVAL = (uint64_t)1 << 48;
+enum { STRENGTH = PURANGSA_MOST_STRENGTH };
 static uint8_t table[PURANGSA_TABLE_LENGTH];
 static uint64_t handle;
 static const uint8_t none[1];
@@ -22,12 +20,12 @@ static const uint8_t none[1];
 static void library_open(uint8_t mechanism)
 {
     memset(table, 0, sizeof table);
-    for (uint64_t i = 0; i < SLOTS; i++) {
-        uint64_t blocks, opened;
-        if (purangsa_open(table, sizeof table, 1 + i % 2, STRENGTH, INTERVAL, 0, entropy, sizeof entropy, nonce,
-                          sizeof nonce, none, 0, &blocks, &opened) != 0)
+    for (int i = 0; i < PURANGSA_SLOTS; i++) {
+        uint64_t blocks, opened, this = i % 2 == 0 ? PURANGSA_HMAC_DRBG : PURANGSA_HASH_DRBG;
+        if (purangsa_open(table, sizeof table, this, STRENGTH, PURANGSA_MOST_INTERVAL, 0, entropy, sizeof entropy, nonce,
+                          sizeof nonce, none, 0, &blocks, &opened) != PURANGSA_SERVED)
             fail("the library does not open");
-        if (1 + i % 2 == mechanism)
+        if (this == mechanism)
             handle = opened;
     }
 }
@@ -35,12 +33,12 @@ static void library_open(uint8_t mechanism)
 static uint64_t library_draw(uint8_t *out, size_t length)
 {
     uint64_t blocks, value;
-    if (purangsa_draw(table, sizeof table, handle, STRENGTH, none, 0, out, length, &blocks, &value) != 0)
+    if (purangsa_draw(table, sizeof table, handle, STRENGTH, none, 0, out, length, &blocks, &value) != PURANGSA_SERVED)
         fail("the library does not draw");
     return blocks;
 }
 
-const struct source library = { "library", library_open, library_draw, 65536 };
+const struct source library = { "library", library_open, library_draw, PURANGSA_MOST_REQUEST };
 
 /* crates/bench_draws */
 uint64_t purangsa_bench_open(uint8_t mechanism, const uint8_t *entropy, size_t entropy_length, const uint8_t *nonce,
@@ -74,4 +72,4 @@ static uint64_t alone_draw(uint8_t *out, size_t length)
     return blocks;
 }
 
-const struct source alone = { "draw by itself", alone_open, alone_draw, 65536 };
+const struct source alone = { "draw by itself", alone_open, alone_draw, PURANGSA_MOST_REQUEST };

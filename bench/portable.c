@@ -161,7 +161,7 @@ static void hmac(uint8_t mac[HASH], const uint8_t key[HASH], struct part a, stru
     hash_of(mac, (struct part){ outer_pad, BLOCK }, (struct part){ inner, HASH }, NONE);
 }
 
-/* A generator's two fields are K, V or V, C; mechanism 1 is HMAC_DRBG, 2 is Hash_DRBG. */
+/* A generator's two fields are K, V or V, C; the mechanism is the library's number for it. */
 static void hmac_update(struct portable *g, struct part data)
 {
     for (uint8_t turn = 0; turn < (data.length > 0 ? 2 : 1); turn++) {
@@ -223,7 +223,7 @@ void portable_open(struct portable *g, uint8_t mechanism, const uint8_t *seed, s
     static const uint8_t zero = 0;
     g->mechanism = mechanism;
     g->counter = 1;
-    if (mechanism == 1) {
+    if (mechanism == PURANGSA_HMAC_DRBG) {
         memset(g->first, 0, HASH);
         memset(g->second, 1, HASH);
         hmac_update(g, (struct part){ seed, length });
@@ -235,7 +235,7 @@ void portable_open(struct portable *g, uint8_t mechanism, const uint8_t *seed, s
 
 void portable_draw(struct portable *g, uint8_t *out, size_t length)
 {
-    if (g->mechanism == 1)
+    if (g->mechanism == PURANGSA_HMAC_DRBG)
         hmac_draw(g, out, length);
     else
         hash_draw(g, out, length);

@@ -5,24 +5,26 @@ import pathlib
 import sys
 
 from picture import picture
-from rows import BESIDE, LIBRARY, MECHANISMS, rows_in
+from rows import BESIDE, LIBRARY, MECHANISMS, MEMSET, WIPE, rows_in
 
 DOCS = pathlib.Path(__file__).resolve().parent.parent / "docs"
 BEGINS = "<!-- bench/run writes what stands from here -->\n"
 ENDS = "<!-- to here -->\n"
-PARTS = (LIBRARY, "draw by itself", "compression", "book")
+PARTS = (LIBRARY, "draw by itself", "compression", WIPE, "book")
 HEAD = ("Nanoseconds for one", "beside", "ours", "theirs", "ratio", "median", "most")
 
 
 def place(row):
     """By part, mechanism, length, and what it stands beside."""
     mechanism = MECHANISMS.index(row.mechanism) if row.mechanism else 0
-    return PARTS.index(row.of), mechanism, row.length, BESIDE.index(row.beside.split(",")[0]), row.beside
+    return PARTS.index(row.of), mechanism, row.length, (*BESIDE, MEMSET).index(row.beside.split(",")[0]), row.beside
 
 
 def name_of(row):
     if row.of == "compression":
         return "compression"
+    if row.of == WIPE:
+        return f"wipe of {row.length:,} bytes, and the registers"
     if row.of == "book":
         return f"block of a book of {row.length:,} records, {row.mechanism}_DRBG"
     words = f"{row.mechanism}_DRBG draw of {row.length:,} bytes"

@@ -6,12 +6,14 @@ from typing import NamedTuple
 BESIDE = ("its bare compressions", "portable C", "mbedTLS", "OpenSSL without SHA extensions", "OpenSSL")
 MECHANISMS = ("HMAC", "Hash")
 LIBRARY = "library"
+WIPE = "wipe"
+MEMSET = "memset of as many bytes"      # which the wipe stands beside
 
 
 class Row(NamedTuple):
-    of: str             # the library, the draw by itself, one compression, a book's block
-    mechanism: str      # empty for the compression
-    length: int         # of a draw in bytes, or of a book in records; 0 for the compression
+    of: str             # the library, the draw by itself, one compression, the wipe, a book's block
+    mechanism: str      # empty for the compression and the wipe
+    length: int         # of a draw or the wipe in bytes, of a book in records; 0 for the compression
     beside: str
     ours: float         # nanoseconds, the least
     theirs: float

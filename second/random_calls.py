@@ -1,9 +1,12 @@
 """Calls on a table in bytes: the ones on both sides of each limit, and ones drawn by lot, on tables sound and spoiled."""
 
 from dataclasses import replace
+from itertools import combinations
 
 from answers import SERVED
+from hash_drbg import STATE_BYTES
 from make_edges import spoiled
+from mechanisms import HASH_DRBG
 from records import CLOSE, DRAW, FRESH_DRAW, OPEN, RESEED
 from run import performed
 from stored import SLOT, TABLE_BYTES, slot_bytes, table_bytes, table_of
@@ -29,6 +32,17 @@ FRESH = (0, 1, 2, 256, 2**32, 2**63, 2**64 - 1)
 STRANGE_HANDLES = (0, 1, 15, 16, 17, 2**32 + 16, 2**36, 2**36 + 16, 2**64 - 1)
 TABLE_LENGTHS = (0, 1, SLOT.size, TABLE_BYTES - 1, TABLE_BYTES + 1, 2 * TABLE_BYTES, 65536)
 FIRST_HANDLE = 16
+
+# Of a used slot, and of no sound one: beside the four strengths, and with the lowest bits or the lowest byte of a good one
+UNSOUND_STRENGTHS = (0, 1, 111, 113, 127, 129, 191, 193, 255, 257, 112 + 256, 128 + 2**15)
+UNSOUND_RIGHTS = (2, 3, 127, 128, 129, 255)
+
+# Each by itself is a reason, in no order
+OPENING_FAULTS = (
+    {"mechanism": 3}, {"strength": 257}, {"interval": 0}, {"personalization": filler(513)}, {"entropy": b""}, {"nonce": b""})
+RESEED_FAULTS = ({"additional": filler(1025)}, {"entropy": b""})
+DRAW_FAULTS = ({"length": 65537}, {"strength": 257}, {"additional": filler(1025)})
+FRESH_DRAW_FAULTS = DRAW_FAULTS + ({"entropy": b""},)
 
 
 # The limits, one by one
@@ -94,6 +108,52 @@ def spoiled_tables():
         yield with_slot_bytes(full, SLOTS - 1, slot_bytes(spoiled(clause, replace(last, interval=2))))
 
 
+def in_first_slot(table, **changes):
+    return with_slot_bytes(table_bytes(table), 0, slot_bytes(replace(table.slots[0], **changes)))
+
+
+def unsound_numbers():
+    """Strengths and fresh rights that a slot never has, as (table, call)."""
+    for mechanism in BOTH:
+        one = opened(mechanism)
+        for text in (
+                *(in_first_slot(one, strength=number) for number in UNSOUND_STRENGTHS),
+                *(in_first_slot(one, fresh=number) for number in UNSOUND_RIGHTS)):
+            for record in six_calls(FIRST_HANDLE):
+                yield text, record
+
+
+def carries():
+    """Hash_DRBG draws of four blocks on a V whose lowest bytes are FF, one of them or more: whatever V is cut into, a carry goes from
+    each part to the next. It comes at V + 1, or where the last byte is FE at V + 2; as (table, call)."""
+    one = opened(HASH_DRBG)
+    for count in range(1, STATE_BYTES + 1):
+        for last in (0xFF, 0xFE):
+            value = filler(STATE_BYTES - count, 1) + b"\xff" * (count - 1) + bytes([last])
+            for additional in (b"", filler(1)):
+                yield in_first_slot(one, first=value), draw(FIRST_HANDLE, 97, additional=additional)
+
+
+def one_or_two(faults):
+    """Each by itself, and every two of them."""
+    return [dict(one) for one in faults] + [one | other for one, other in combinations(faults, 2)]
+
+
+def two_reasons():
+    """Calls for which two reasons or more hold: the first of them in the call's order is told; as (table, call)."""
+    for text in (table_bytes(table) for table in (
+            FRESH_TABLE, full_table(), replace(FRESH_TABLE, last=LARGEST_SERIAL), replace(full_table(), last=LARGEST_SERIAL))):
+        for faults in one_or_two(OPENING_FAULTS):
+            yield text, opening(**faults)
+    for mechanism in BOTH:
+        plain = opened(mechanism, interval=1, fresh=0)
+        for table in (plain, performed(plain, draw(FIRST_HANDLE)).table, opened(mechanism)):
+            for handle in (FIRST_HANDLE, FIRST_HANDLE + 1):
+                yield from ((table_bytes(table), reseed(handle, **faults)) for faults in one_or_two(RESEED_FAULTS))
+                yield from ((table_bytes(table), draw(handle, **faults)) for faults in one_or_two(DRAW_FAULTS))
+                yield from ((table_bytes(table), fresh_draw(handle, **faults)) for faults in one_or_two(FRESH_DRAW_FAULTS))
+
+
 def with_slot_bytes(text, place, slot):
     at = place * SLOT.size
     return text[:at] + slot + text[at + SLOT.size:]
@@ -104,7 +164,7 @@ def cut_or_longer(text, length):
 
 
 def edges():
-    """As (table, call): every limit, every clause of soundness and every wrong length, each at least once."""
+    """As (table, call): every limit, every clause of soundness, every wrong length, every carry and every two reasons."""
     fresh, full = table_bytes(FRESH_TABLE), table_bytes(full_table())
     for record in openings():
         yield fresh, record
@@ -132,6 +192,9 @@ def edges():
         for text in (fresh, full):
             for record in six_calls(FIRST_HANDLE):
                 yield cut_or_longer(text, length), record
+    yield from unsound_numbers()
+    yield from carries()
+    yield from two_reasons()
 
 
 # Drawn by lot

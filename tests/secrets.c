@@ -8,7 +8,9 @@
  *
  * LEAK is 0, or the number of a deliberate leak, which memcheck must report:
  *   1  a jump on a drawn byte      2  an address made from a drawn byte      3  a public field that is marked secret,
- *   so that the library's own test of it is a jump on a secret */
+ *   so that the library's own test of it is a jump on a secret
+ *
+ * `secrets calls` makes the calls only, for bench/stack, which sees what instructions they reach. */
 #include <stdint.h>
 #include <stdio.h>
 #include <stdlib.h>
@@ -22,23 +24,14 @@
 #define LEAK 0
 #endif
 
-enum { HMAC_DRBG = 1, HASH_DRBG = 2 };
-enum {
-    SERVED = 0,
-    UNSOUND = 1,
-    NO_SUCH_GENERATOR = 2,
-    BAD_MECHANISM = 3,
-    ADDITIONAL_TOO_LONG = 7,
-    REQUEST_TOO_LONG = 10,
-    RESEED_DUE = 12,
-    NO_FREE_SLOT = 13
-};
-enum { MOST_STRING = 1024, MOST_OUTPUT = 65536, INTERVAL = 6, LEAST_STRENGTH = 112 };
+enum { INTERVAL = 6, LEAST_STRENGTH = 112 };
 
-static uint8_t table[PURANGSA_TABLE_LENGTH], output[MOST_OUTPUT + 1];
-static uint8_t entropy[MOST_STRING], nonce[64], personalization[512], additional[MOST_STRING + 1];
+static uint8_t table[PURANGSA_TABLE_LENGTH], output[PURANGSA_MOST_REQUEST + 1];
+static uint8_t entropy[PURANGSA_MOST_ENTROPY], nonce[PURANGSA_MOST_NONCE], personalization[PURANGSA_MOST_PERSONALIZATION];
+static uint8_t additional[PURANGSA_MOST_ADDITIONAL + 1];
 static uint64_t blocks, value;
 static unsigned calls;
+static int looking = 1;
 
 static void fail(const char *why)
 {
@@ -49,7 +42,8 @@ static void fail(const char *why)
 /* The bytes of a field that are secret: HMAC_DRBG uses 32 of them, and the others are public zeros. */
 static size_t secret_bytes(const uint8_t *slot)
 {
-    return slot[0] == HMAC_DRBG ? 32 : slot[0] == HASH_DRBG ? PURANGSA_FIELD_LENGTH : 0;
+    uint8_t mechanism = slot[PURANGSA_MECHANISM_AT];
+    return mechanism == PURANGSA_HMAC_DRBG ? 32 : mechanism == PURANGSA_HASH_DRBG ? PURANGSA_FIELD_LENGTH : 0;
 }
 
 static void hide(void)
@@ -72,7 +66,7 @@ static void seen(const uint8_t *from, size_t length)
 
 static void hidden(const uint8_t *from, size_t length)
 {
-    for (size_t i = 0; i < length; i++) {
+    for (size_t i = 0; looking && i < length; i++) {
         uint8_t undefined;
         if (VALGRIND_GET_VBITS(from + i, &undefined, 1) != 1 || undefined == 0)
             fail("what was made from secrets is held to be public");
@@ -135,7 +129,7 @@ static void draw(size_t t, uint64_t handle, size_t a, size_t length, uint64_t ex
     VALGRIND_MAKE_MEM_UNDEFINED(table + handle % PURANGSA_SLOTS * PURANGSA_SLOT_LENGTH + PURANGSA_COUNTER_AT, 8);
 #endif
     look(purangsa_draw(table, t, handle, LEAST_STRENGTH, additional, a, output, length, &blocks, &value), expected);
-    if (expected == SERVED)
+    if (expected == PURANGSA_SERVED)
         drawn(length);
 }
 
@@ -143,7 +137,7 @@ static void fresh_draw(size_t t, uint64_t handle, size_t e, size_t a, size_t len
 {
     hide();
     look(purangsa_fresh_draw(table, t, handle, LEAST_STRENGTH, entropy, e, additional, a, output, length, &blocks, &value), expected);
-    if (expected == SERVED)
+    if (expected == PURANGSA_SERVED)
         drawn(length);
 }
 
@@ -167,10 +161,12 @@ enum { REQUESTS = sizeof requests / sizeof requests[0] };
 
 static uint64_t opened(size_t i)
 {
-    static const size_t nonces[] = { 8, 16, 64 }, personalizations[] = { 0, 1, 55, 512 };
-    static const uint64_t strengths[] = { 0, 128, 192, 256 };
+    static const size_t nonces[] = { PURANGSA_LEAST_NONCE, 16, PURANGSA_MOST_NONCE };
+    static const size_t personalizations[] = { 0, 1, 55, PURANGSA_MOST_PERSONALIZATION };
+    static const uint64_t strengths[] = { 0, 128, 192, PURANGSA_MOST_STRENGTH };
     size_t e = lengths[i / 2 % LENGTHS];
-    return open_as(PURANGSA_TABLE_LENGTH, 1 + i % 2, e < 32 ? 0 : strengths[i / 2 % 4], e, nonces[i % 3], personalizations[i / 2 % 4], SERVED);
+    uint64_t mechanism = i % 2 == 0 ? PURANGSA_HMAC_DRBG : PURANGSA_HASH_DRBG, strength = e < 32 ? 0 : strengths[i / 2 % 4];
+    return open_as(PURANGSA_TABLE_LENGTH, mechanism, strength, e, nonces[i % 3], personalizations[i / 2 % 4], PURANGSA_SERVED);
 }
 
 /* All calls on a generator whose strings have the i-th lengths, and the requests in turn. */
@@ -178,39 +174,40 @@ static void live(uint64_t handle, size_t i)
 {
     size_t e = lengths[i / 2 % LENGTHS], a = lengths[(i + 4) % LENGTHS];
     for (size_t k = 0; k < REQUESTS; k++)
-        draw(PURANGSA_TABLE_LENGTH, handle, k % 2 == 0 ? 0 : a, requests[k], SERVED);
-    draw(PURANGSA_TABLE_LENGTH, handle, 0, 16, RESEED_DUE);
-    reseed(PURANGSA_TABLE_LENGTH, handle, e, i % 4 < 2 ? a : 0, SERVED);
+        draw(PURANGSA_TABLE_LENGTH, handle, k % 2 == 0 ? 0 : a, requests[k], PURANGSA_SERVED);
+    draw(PURANGSA_TABLE_LENGTH, handle, 0, 16, PURANGSA_RESEED_DUE);
+    reseed(PURANGSA_TABLE_LENGTH, handle, e, i % 4 < 2 ? a : 0, PURANGSA_SERVED);
     for (size_t k = 0; k < REQUESTS; k++)
-        fresh_draw(PURANGSA_TABLE_LENGTH, handle, e, k % 2 == 0 ? a : 0, requests[k], SERVED);
+        fresh_draw(PURANGSA_TABLE_LENGTH, handle, e, k % 2 == 0 ? a : 0, requests[k], PURANGSA_SERVED);
     if (i < 2)
-        draw(PURANGSA_TABLE_LENGTH, handle, 0, MOST_OUTPUT, SERVED);
-    inquire(PURANGSA_TABLE_LENGTH, handle, SERVED);
+        draw(PURANGSA_TABLE_LENGTH, handle, 0, PURANGSA_MOST_REQUEST, PURANGSA_SERVED);
+    inquire(PURANGSA_TABLE_LENGTH, handle, PURANGSA_SERVED);
 }
 
 static void refused(uint64_t handle)
 {
-    open_as(PURANGSA_TABLE_LENGTH - 1, 1, 0, 32, 8, 0, UNSOUND);
-    open_as(PURANGSA_TABLE_LENGTH, 3, 0, 32, 8, 0, BAD_MECHANISM);
-    open_as(PURANGSA_TABLE_LENGTH, 1, 256, 32, 8, 0, NO_FREE_SLOT);
-    reseed(PURANGSA_TABLE_LENGTH - 1, handle, 32, 0, UNSOUND);
-    reseed(PURANGSA_TABLE_LENGTH, 0, 32, 0, NO_SUCH_GENERATOR);
-    reseed(PURANGSA_TABLE_LENGTH, handle, 32, MOST_STRING + 1, ADDITIONAL_TOO_LONG);
-    draw(PURANGSA_TABLE_LENGTH - 1, handle, 0, 16, UNSOUND);
-    draw(PURANGSA_TABLE_LENGTH, handle, 0, MOST_OUTPUT + 1, REQUEST_TOO_LONG);
-    fresh_draw(PURANGSA_TABLE_LENGTH - 1, handle, 32, 0, 16, UNSOUND);
-    fresh_draw(PURANGSA_TABLE_LENGTH, 0, 32, 0, 16, NO_SUCH_GENERATOR);
-    fresh_draw(PURANGSA_TABLE_LENGTH, handle, 32, 0, MOST_OUTPUT + 1, REQUEST_TOO_LONG);
-    close_as(PURANGSA_TABLE_LENGTH - 1, handle, UNSOUND);
-    inquire(PURANGSA_TABLE_LENGTH - 1, handle, UNSOUND);
-    inquire(PURANGSA_TABLE_LENGTH, 0, NO_SUCH_GENERATOR);
+    open_as(PURANGSA_TABLE_LENGTH - 1, PURANGSA_HMAC_DRBG, 0, 32, 8, 0, PURANGSA_TABLE_UNSOUND);
+    open_as(PURANGSA_TABLE_LENGTH, PURANGSA_HASH_DRBG + 1, 0, 32, 8, 0, PURANGSA_BAD_MECHANISM);
+    open_as(PURANGSA_TABLE_LENGTH, PURANGSA_HMAC_DRBG, PURANGSA_MOST_STRENGTH, 32, 8, 0, PURANGSA_NO_FREE_SLOT);
+    reseed(PURANGSA_TABLE_LENGTH - 1, handle, 32, 0, PURANGSA_TABLE_UNSOUND);
+    reseed(PURANGSA_TABLE_LENGTH, 0, 32, 0, PURANGSA_NO_SUCH_GENERATOR);
+    reseed(PURANGSA_TABLE_LENGTH, handle, 32, PURANGSA_MOST_ADDITIONAL + 1, PURANGSA_LONG_ADDITIONAL);
+    draw(PURANGSA_TABLE_LENGTH - 1, handle, 0, 16, PURANGSA_TABLE_UNSOUND);
+    draw(PURANGSA_TABLE_LENGTH, handle, 0, PURANGSA_MOST_REQUEST + 1, PURANGSA_LONG_REQUEST);
+    fresh_draw(PURANGSA_TABLE_LENGTH - 1, handle, 32, 0, 16, PURANGSA_TABLE_UNSOUND);
+    fresh_draw(PURANGSA_TABLE_LENGTH, 0, 32, 0, 16, PURANGSA_NO_SUCH_GENERATOR);
+    fresh_draw(PURANGSA_TABLE_LENGTH, handle, 32, 0, PURANGSA_MOST_REQUEST + 1, PURANGSA_LONG_REQUEST);
+    close_as(PURANGSA_TABLE_LENGTH - 1, handle, PURANGSA_TABLE_UNSOUND);
+    inquire(PURANGSA_TABLE_LENGTH - 1, handle, PURANGSA_TABLE_UNSOUND);
+    inquire(PURANGSA_TABLE_LENGTH, 0, PURANGSA_NO_SUCH_GENERATOR);
 }
 
-int main(void)
+int main(int count, char **words)
 {
-    if (!RUNNING_ON_VALGRIND)
+    looking = count < 2 || strcmp(words[1], "calls") != 0;
+    if (looking && !RUNNING_ON_VALGRIND)
         fail("this is to be run under valgrind");
-    for (size_t i = 0; i < MOST_STRING; i++)
+    for (size_t i = 0; i < sizeof entropy; i++)
         entropy[i] = additional[i] = (uint8_t)(7 * i + i / 251);
     memcpy(nonce, entropy, sizeof nonce);
     memcpy(personalization, entropy, sizeof personalization);
@@ -222,8 +219,8 @@ int main(void)
         live(handles[i], i);
     refused(handles[0]);
     for (size_t i = 0; i < PURANGSA_SLOTS; i++) {
-        close_as(PURANGSA_TABLE_LENGTH, handles[i], SERVED);
-        draw(PURANGSA_TABLE_LENGTH, handles[i], 0, 16, NO_SUCH_GENERATOR);
+        close_as(PURANGSA_TABLE_LENGTH, handles[i], PURANGSA_SERVED);
+        draw(PURANGSA_TABLE_LENGTH, handles[i], 0, 16, PURANGSA_NO_SUCH_GENERATOR);
     }
     printf("%u calls\n", calls);
     return 0;

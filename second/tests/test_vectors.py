@@ -111,7 +111,7 @@ class Checks(InFolder):
 
     def test_missing_files_and_files_without_a_case_fail(self):
         self.assertEqual(self.run_checks(check_sha.CHECKS), (1, "0 passed, 3 failed"))
-        self.assertEqual(self.run_checks(check_drbg.CHECKS), (1, "0 passed, 5 failed"))
+        self.assertEqual(self.run_checks(check_drbg.CHECKS), (1, "0 passed, 6 failed"))
         self.assertEqual(self.run_checks([]), (1, "0 passed, 0 failed"))
         name, check = check_drbg.CHECKS[0]
         other_hash = self.first_case(name)
