@@ -2,5 +2,7 @@
 pub mod Load
 pub mod WordForms
 pub mod Feeding
+pub mod Reading
+pub mod Walks
 pub mod Stores
 pub mod LastBlocks

@@ -1,0 +1,181 @@
+-- The seed material read string by string. A reading goes to the end of a string, so no more than three are needed; and what was read up to
+-- one place, with what stands between it and the next, is what was read up to the next. Assumes nothing.
+use mathlib.Core.Path.{_≡_, sym, ap, subst, _∙_}
+use mathlib.Core.List.{List, _++_}
+use Prim.Native.Nat.{ℕ, _+_, _-_, _≤_, _<_}
+use native.Mathlib.Nat.{le-of-eq}
+use native.Mathlib.Decide.{decLt}
+use native.Mathlib.Omega.{arith}
+use lib.ListN.{length, take, drop, length-append, length-take, length-drop}
+use lib.Seq.{take-add, take-all, take-append-le, drop-append-le, drop-append-add}
+use borrow.Author.Tests.{lt-ltb, le-ltb}
+use denote.Ref.{RefT, now}
+use Rattle.sha256.specs.Fed.{Fed, Room}
+use Rattle.sha256.specs.Seed.{stringEnd, Ready, ReadOn, material, size, Advanced}
+use Rattle.sha256.specs.declared.running.Running.{Running}
+use Rattle.sha256.specs.declared.reader.Place.{Place}
+use Rattle.sha256.specs.declared.reader.Reader.{Reader}
+use Rattle.sha256.proofs.Feeding.{fed-then, fed-none}
+
+-- ---- where a string ends
+module _ (e n p at : ℕ) where
+  pub end-of-first : at < e → stringEnd e n p at ≡ e
+  end-of-first here = rw (lt-ltb at e here)
+
+  pub end-of-second : e ≤ at → at < e + n → stringEnd e n p at ≡ e + n
+  end-of-second behind here = rw (le-ltb at e behind, lt-ltb at (e + n) here)
+
+  pub end-of-third : e + n ≤ at → stringEnd e n p at ≡ e + n + p
+  end-of-third behind = rw (le-ltb at e (omega (arith, behind)), le-ltb at (e + n) behind)
+
+  -- a place, and the end of the string that it stands in
+  pub data Stands : Type 0 where
+    in-first : at < e → stringEnd e n p at ≡ e → Stands
+    in-second : e ≤ at → at < e + n → stringEnd e n p at ≡ e + n → Stands
+    in-third : e + n ≤ at → stringEnd e n p at ≡ e + n + p → Stands
+
+  stands : Stands
+  stands = first (decLt at e)
+    where
+      second : e ≤ at → Dec (at < e + n) → Stands
+      second behind (yes here) = in-second behind here (end-of-second behind here)
+      second behind (no far) = in-third (omega (arith, far)) (end-of-third (omega (arith, far)))
+
+      first : Dec (at < e) → Stands
+      first (yes here) = in-first here (end-of-first here)
+      first (no far) = second (omega (arith, far)) (decLt at (e + n))
+
+  end-inside : stringEnd e n p at ≤ e + n + p
+  end-inside = go stands
+    where
+      go : Stands → stringEnd e n p at ≤ e + n + p
+      go (in-first here is) = omega (arith, is)
+      go (in-second behind here is) = omega (arith, is)
+      go (in-third behind is) = omega (arith, is)
+
+  end-ahead : at ≤ e + n + p → at ≤ stringEnd e n p at
+  end-ahead inside = go stands
+    where
+      go : Stands → at ≤ stringEnd e n p at
+      go (in-first here is) = omega (arith, here, is)
+      go (in-second behind here is) = omega (arith, here, is)
+      go (in-third behind is) = omega (arith, inside, is)
+
+  -- the end of the first string is reached by one reading at the latest, that of the second by two, and the end of all by three
+  first-reached : e ≤ stringEnd e n p at
+  first-reached = go stands
+    where
+      go : Stands → e ≤ stringEnd e n p at
+      go (in-first here is) = omega (arith, is)
+      go (in-second behind here is) = omega (arith, is)
+      go (in-third behind is) = omega (arith, is)
+
+  second-reached : e ≤ at → e + n ≤ stringEnd e n p at
+  second-reached behind = go stands
+    where
+      go : Stands → e + n ≤ stringEnd e n p at
+      go (in-first here is) = omega (arith, behind, here)
+      go (in-second _ here is) = omega (arith, is)
+      go (in-third _ is) = omega (arith, is)
+
+-- ---- what stands there
+-- a place in the first of two strings joined: the rest of that string
+pub rest-here : (at : ℕ) (s t : List ℕ) → at ≤ length s → take (length s - at) (drop at (s ++ t)) ≡ take (length s - at) (drop at s)
+rest-here at s t inside =
+    ap (take (length s - at)) (drop-append-le at s t inside) ∙
+    take-append-le (length s - at) (drop at s) t (le-of-eq (sym (length-drop at s)))
+
+-- a place behind it: a place in the second
+pub drop-behind : (at : ℕ) (s t : List ℕ) → length s ≤ at → drop at (s ++ t) ≡ drop (at - length s) t
+drop-behind at s t behind =
+    let sum : at ≡ length s + (at - length s) = omega (arith, behind) in
+    ap (λ k. drop k (s ++ t)) sum ∙ drop-append-add s t (at - length s)
+
+module _ (e n p : List ℕ) where
+  abbrev end : ℕ → ℕ
+  end at = stringEnd (length e) (length n) (length p) at
+
+  pub ahead : (at : ℕ) → at ≤ length e + length n + length p → at ≤ end at
+  ahead at = end-ahead (length e) (length n) (length p) at
+
+  pub inside : (at : ℕ) → end at ≤ length e + length n + length p
+  inside at = end-inside (length e) (length n) (length p) at
+
+  -- what a reading reads is as long as the place moves
+  pub length-rest : (at : ℕ) {s : List ℕ} → s ≡ take (end at - at) (drop at (e ++ (n ++ p))) → length s ≡ end at - at
+  length-rest at is =
+      ap length is ∙
+      length-take (end at - at) (drop at (e ++ (n ++ p))) ∙
+      omega (arith, inside at, length-drop at (e ++ (n ++ p)), length-append e (n ++ p), length-append n p)
+
+  -- and it is what stands between the two places
+  pub rest-between : (at : ℕ) {s : List ℕ} → s ≡ take (end at - at) (drop at (e ++ (n ++ p)))
+      → s ≡ take (at + length s - at) (drop at (e ++ (n ++ p)))
+  rest-between at {s} is =
+      let moves : end at - at ≡ at + length s - at = omega (arith, length-rest at is) in
+      is ∙ ap (λ k. take k (drop at (e ++ (n ++ p)))) moves
+
+  module _ {a b : Place} (on : ReadOn e n p a b) where
+    -- h has read up to one place: so it has up to the next
+    read-on : {h : Running} → a .at ≤ length e + length n + length p → Fed h (take (a .at) (e ++ (n ++ p))) (a .hash)
+        → Fed h (take (b .at) (e ++ (n ++ p))) (b .hash)
+    read-on {h} here fed =
+        let far : a .at + (b .at - a .at) ≡ b .at = omega (arith, on .moved, ahead (a .at) here) in
+        subst (λ x. Fed h x (b .hash)) (sym (take-add (a .at) (b .at - a .at) (e ++ (n ++ p))) ∙ ap (λ k. take k (e ++ (n ++ p))) far)
+        (fed-then fed (on .fed))
+
+    still-ready : Ready (length e + length n + length p) a → Ready (length e + length n + length p) b
+    still-ready ready =
+        let read = length-rest (a .at) (ap (λ k. take (k - a .at) (drop (a .at) (e ++ (n ++ p)))) (on .moved)) in
+        let near = inside (a .at) in
+        let far = ahead (a .at) (ready .inside) in
+        record {
+          few = ready .few;
+          inside = omega (arith, on .moved, near);
+          room = record { few = on .fed .few; room = omega (arith, on .fed .grown, on .moved, read, ready .room .room, near, far) };
+        }
+
+  -- three readings from the beginning
+  read-three : {a b c d : Place} → a .at ≡ 0 → Ready (length e + length n + length p) a
+      → ReadOn e n p a b → ReadOn e n p b c → ReadOn e n p c d → Fed (a .hash) (e ++ (n ++ p)) (d .hash)
+  read-three {a} {b} {c} {d} start ready one two three =
+      let all = length e + length n + length p in
+      let here = still-ready one ready in
+      let there = still-ready two here in
+      let nothing : Fed (a .hash) (take (a .at) (e ++ (n ++ p))) (a .hash) =
+      subst (λ k. Fed (a .hash) (take k (e ++ (n ++ p))) (a .hash)) (sym start) (fed-none (a .hash) (ready .room .few)) in
+      let first : length e ≤ b .at = omega (arith, one .moved, first-reached (length e) (length n) (length p) (a .at)) in
+      let second : length e + length n ≤ c .at =
+      omega (arith, two .moved, second-reached (length e) (length n) (length p) (b .at) first) in
+      let last : d .at ≡ all = three .moved ∙ end-of-third (length e) (length n) (length p) (c .at) second in
+      let whole : length (e ++ (n ++ p)) ≤ d .at = omega (arith, last, length-append e (n ++ p), length-append n p) in
+      subst (λ x. Fed (a .hash) x (d .hash)) (take-all (d .at) (e ++ (n ++ p)) whole)
+      (read-on three (there .inside) (read-on two (here .inside) (read-on one (ready .inside) nothing)))
+
+-- ---- readers
+abbrev strings-of : Reader → Place → Reader
+strings-of r place = record { entropy = r .entropy; nonce = r .nonce; personalization = r .personalization; place = place }
+
+-- a hash with room for all of the one string is ready to read it from its beginning
+pub ready-first : (e n p : RefT (List ℕ)) (h : Running) → Room h (length (now e) + length (now n) + length (now p))
+    → Ready (length (now e) + length (now n) + length (now p)) (record { at = 0; hash = h })
+ready-first e n p h room =
+    record { few = omega (arith, room .room); inside = omega arith; room = record { few = room .few; room = omega (arith, room .room) } }
+
+pub ready-then : {r q : Reader} → Advanced r q → Ready (size r) (r .place) → Ready (size q) (q .place)
+ready-then {r} {q} on ready =
+    subst (λ x. Ready (size x) (q .place)) (sym (on .strings))
+    (still-ready (now (r .entropy)) (now (r .nonce)) (now (r .personalization)) (on .read) ready)
+
+-- a reading of strings that another reader has too
+read-of : (r : Reader) {q : Reader} {a b : Place} → q ≡ strings-of r (q .place)
+    → ReadOn (now (q .entropy)) (now (q .nonce)) (now (q .personalization)) a b
+    → ReadOn (now (r .entropy)) (now (r .nonce)) (now (r .personalization)) a b
+read-of r {q} {a} {b} same = subst (λ x. ReadOn (now (x .entropy)) (now (x .nonce)) (now (x .personalization)) a b) same
+
+pub read-thrice : {r₀ r₁ r₂ r₃ : Reader} → r₀ .place .at ≡ 0 → Ready (size r₀) (r₀ .place)
+    → Advanced r₀ r₁ → Advanced r₁ r₂ → Advanced r₂ r₃ → Fed (r₀ .place .hash) (material r₀) (r₃ .place .hash)
+read-thrice {r₀} {r₁} {r₂} {r₃} start ready one two three =
+    let same : r₂ ≡ strings-of r₀ (r₂ .place) = subst (λ x. r₂ ≡ strings-of x (r₂ .place)) (one .strings) (two .strings) in
+    read-three (now (r₀ .entropy)) (now (r₀ .nonce)) (now (r₀ .personalization)) start ready
+    (one .read) (read-of r₀ (one .strings) (two .read)) (read-of r₀ same (three .read))
