@@ -12,7 +12,7 @@ use Rattle.standard.specs.Sha256.{sha256}
 use Rattle.standard.proofs.Hash.{absorbed-append, absorbed-more}
 use Rattle.standard.proofs.Counts.{absorbed-blocks}
 use Rattle.standard.proofs.Lengths.{length-padded}
-use Rattle.sha256.specs.Values.{eightOf}
+use Rattle.compression.specs.Values.{eightOf}
 use Rattle.sha256.specs.Fed.{HasRead, Fed, Absorbed, bytesRead}
 use Rattle.sha256.specs.declared.running.Running.{Running}
 

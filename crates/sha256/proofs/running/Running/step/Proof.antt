@@ -8,7 +8,7 @@ use native.Mathlib.Omega.{arith}
 use lib.Dec.{ltb}
 use lib.ListN.{length, take, drop, length-append}
 use Rattle.sha256.proofs.Feeding.{fed-part, fed-whole}
-use Rattle.sha256.proofs.Stores.{picked-block, length-before, length-part}
+use Rattle.compression.proofs.Stores.{picked-block, length-before, length-part}
 use borrow.Author.Needs.{needs}
 use Rattle.sha256.proofs.running.Running.step.Statement.{statement}
 use Rattle.sha256.proofs.running.Running.step.Tie as tie
