@@ -7,8 +7,8 @@ use lib.ListN.{length, take, drop}
 use Rattle.standard.specs.Hash.{compressed, absorbed, blockAt}
 use Rattle.standard.specs.Sha256.{sha256}
 use Rattle.standard.proofs.Hash.{absorbed-more}
-use Rattle.sha256.specs.Values.{eightOf}
-use Rattle.sha256.proofs.Stores.{length-part}
+use Rattle.compression.specs.Values.{eightOf}
+use Rattle.compression.proofs.Stores.{length-part}
 use borrow.Author.Needs.{needs}
 use Rattle.bench_bare.proofs.purangsa_bare.Statement.{statement}
 use Rattle.bench_bare.proofs.purangsa_bare.Tie as tie

@@ -6,7 +6,7 @@ use lib.ListN.{length, take, drop}
 use lib.Seq.{take-add, take-all, length-take-le}
 use Rattle.sha256.specs.Fed.{HasRead, Fed}
 use Rattle.sha256.proofs.Feeding.{read-padded}
-use Rattle.sha256.proofs.Stores.{length-part}
+use Rattle.compression.proofs.Stores.{length-part}
 use borrow.Author.Needs.{needs}
 use Rattle.test_hashes.proofs.in_pieces.Statement.{statement}
 use Rattle.test_hashes.proofs.in_pieces.Tie as tie
