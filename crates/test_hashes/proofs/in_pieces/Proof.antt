@@ -1,4 +1,4 @@
--- The first bytes of s at each place. Assumes nothing.
+-- At each place the hash has read what stands before it, so at the end all of s, and then the padding. Assumes nothing.
 use Prim.Native.Nat.{_+_, _-_, _≤_}
 use mathlib.Core.Path.{_≡_, sym, subst}
 use native.Mathlib.Omega.{arith}
@@ -55,21 +55,6 @@ returns c =
 pub in-pieces-spec : {M : Type 1} → statement M
 in-pieces-spec =
     tie.close
-    (tie.spec
-    Inv-loop
-    μ-loop
-    (λ c κs. search needs)
-    loop-holds
-    (λ c. search needs)
-    (λ c κs. search needs)
-    (λ c. search needs)
-    (λ c. search needs)
-    (λ c. search needs)
-    (λ c. search needs)
-    update-requires
-    (λ c. search needs)
-    (λ c. search needs)
-    loop-again
-    finish-requires
-    (λ c κs. search needs)
-    returns)
+    (tie.spec Inv-loop μ-loop (λ c κs. search needs) loop-holds (λ c. search needs) (λ c κs. search needs) (λ c. search needs)
+    (λ c. search needs) (λ c. search needs) (λ c. search needs) update-requires (λ c. search needs) (λ c. search needs) loop-again
+    finish-requires (λ c κs. search needs) returns)
