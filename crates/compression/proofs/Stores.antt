@@ -1,7 +1,7 @@
 -- Arrays that a loop or a few stores fill from the front or from the back. Assumes nothing.
-use mathlib.Core.Path.{_≡_, refl, sym, ap, ap₂, _∙_}
-use mathlib.Core.List.{List, [], _∷_, _++_, append-assoc, append-nil}
-use Prim.Native.Nat.{ℕ, zero, suc, _+_, _-_, _*_, _/_, _%_, _≤_, _<_}
+use mathlib.Core.Path.{_≡_, sym, ap, ap₂, _∙_}
+use mathlib.Core.List.{List, [], _∷_, _++_, append-assoc}
+use Prim.Native.Nat.{ℕ, suc, _+_, _-_, _/_, _%_, _≤_, _<_}
 use mathlib.Core.Bool.{cond}
 use native.Mathlib.Nat.{le-of-eq, mod-eq-of-lt}
 use native.Mathlib.Decide.{decLt}
@@ -9,8 +9,8 @@ use native.Mathlib.Numerals.{add-one}
 use native.Mathlib.Omega.{arith}
 use borrow.Author.Tests.{lt-ltb, le-ltb}
 use lib.Dec.{ltb}
-use lib.ListN.{length-append, length, getD, take, drop, set, replicate, length-set, length-drop, length-take, length-replicate, replicate-append-replicate}
-use lib.Seq.{take-all, length-take-le, take-suc-set, take-suc, take-set-le, drop-cons, drop-set-lt, getD-drop, getD-set-same}
+use lib.ListN.{length-append, length, getD, take, drop, set, replicate, length-set, length-drop, replicate-append-replicate}
+use lib.Seq.{take-all, length-take-le, take-suc-set, take-suc, drop-cons, drop-set-lt, getD-drop, getD-set-same}
 use Rattle.standard.specs.Strings.{bytesOf}
 
 -- one more behind the first n

@@ -2,7 +2,7 @@
 // The document's forms take more operations, or more copies of a word: proofs/WordForms.antt has the laws between the two.
 ghost use mathlib.Core.Path.{_≡_};
 ghost use Rattle.standard.specs.Words.{Ch, Maj, Σ, σ};
-ghost use Rattle.standard.specs.Hash.{Hash, plus};
+ghost use Rattle.standard.specs.Hash.{plus};
 ghost use Rattle.standard.specs.Sha256.{sha256};
 
 pub fn ch(x: u32, y: u32, z: u32) -> u32

@@ -1,10 +1,10 @@
 -- A message's last blocks as the code makes them: one where the length still fits behind the marked byte, else two. Assumes nothing.
-use mathlib.Core.Path.{_≡_, refl, sym, ap, ap₂, subst, _∙_}
-use mathlib.Core.List.{List, [], _∷_, _++_, append-assoc}
+use mathlib.Core.Path.{_≡_, sym, ap, ap₂, subst, _∙_}
+use mathlib.Core.List.{List, _∷_, _++_, append-assoc}
 use Prim.Native.Nat.{ℕ, _+_, _-_, _*_, _%_, _≤_, _<_}
 use native.Mathlib.Omega.{arith}
 use lib.ListN.{length, take, replicate, length-append, length-replicate, replicate-append-replicate}
-use lib.Seq.{take-at, length-take-le}
+use lib.Seq.{take-at}
 use Rattle.standard.specs.Strings.{bytesOf}
 use Rattle.standard.specs.Hash.{zeros, padding}
 use Rattle.standard.specs.Sha256.{sha256}

@@ -1,6 +1,6 @@
 -- The seed material read string by string. A reading goes to the end of a string, so no more than three are needed; and what was read up to
 -- one place, with what stands between it and the next, is what was read up to the next. Assumes nothing.
-use mathlib.Core.Path.{_≡_, sym, ap, subst, _∙_}
+use mathlib.Core.Path.{_≡_, sym, ap, ap₂, subst, _∙_}
 use mathlib.Core.List.{List, _++_}
 use Prim.Native.Nat.{ℕ, _+_, _-_, _≤_, _<_}
 use native.Mathlib.Nat.{le-of-eq}
@@ -19,17 +19,17 @@ use Rattle.sha256.proofs.Feeding.{fed-then, fed-none}
 
 -- ---- where a string ends
 module _ (e n p at : ℕ) where
-  pub end-of-first : at < e → stringEnd e n p at ≡ e
+  end-of-first : at < e → stringEnd e n p at ≡ e
   end-of-first here = rw (lt-ltb at e here)
 
-  pub end-of-second : e ≤ at → at < e + n → stringEnd e n p at ≡ e + n
+  end-of-second : e ≤ at → at < e + n → stringEnd e n p at ≡ e + n
   end-of-second behind here = rw (le-ltb at e behind, lt-ltb at (e + n) here)
 
-  pub end-of-third : e + n ≤ at → stringEnd e n p at ≡ e + n + p
+  end-of-third : e + n ≤ at → stringEnd e n p at ≡ e + n + p
   end-of-third behind = rw (le-ltb at e (omega (arith, behind)), le-ltb at (e + n) behind)
 
   -- a place, and the end of the string that it stands in
-  pub data Stands : Type 0 where
+  data Stands : Type 0 where
     in-first : at < e → stringEnd e n p at ≡ e → Stands
     in-second : e ≤ at → at < e + n → stringEnd e n p at ≡ e + n → Stands
     in-third : e + n ≤ at → stringEnd e n p at ≡ e + n + p → Stands
@@ -80,13 +80,13 @@ module _ (e n p at : ℕ) where
 
 -- ---- what stands there
 -- a place in the first of two strings joined: the rest of that string
-pub rest-here : (at : ℕ) (s t : List ℕ) → at ≤ length s → take (length s - at) (drop at (s ++ t)) ≡ take (length s - at) (drop at s)
+rest-here : (at : ℕ) (s t : List ℕ) → at ≤ length s → take (length s - at) (drop at (s ++ t)) ≡ take (length s - at) (drop at s)
 rest-here at s t inside =
     ap (take (length s - at)) (drop-append-le at s t inside) ∙
     take-append-le (length s - at) (drop at s) t (le-of-eq (sym (length-drop at s)))
 
 -- a place behind it: a place in the second
-pub drop-behind : (at : ℕ) (s t : List ℕ) → length s ≤ at → drop at (s ++ t) ≡ drop (at - length s) t
+drop-behind : (at : ℕ) (s t : List ℕ) → length s ≤ at → drop at (s ++ t) ≡ drop (at - length s) t
 drop-behind at s t behind =
     let sum : at ≡ length s + (at - length s) = omega (arith, behind) in
     ap (λ k. drop k (s ++ t)) sum ∙ drop-append-add s t (at - length s)
@@ -100,6 +100,28 @@ module _ (e n p : List ℕ) where
 
   pub inside : (at : ℕ) → end at ≤ length e + length n + length p
   inside at = end-inside (length e) (length n) (length p) at
+
+  -- the rest of the string that a place stands in, for each of the three
+  pub rest-first : (at : ℕ) → at < length e → take (length e - at) (drop at e) ≡ take (end at - at) (drop at (e ++ (n ++ p)))
+  rest-first at here =
+      let is = end-of-first (length e) (length n) (length p) at here in
+      sym (ap (λ k. take (k - at) (drop at (e ++ (n ++ p)))) is ∙ rest-here at e (n ++ p) (omega (arith, here)))
+
+  pub rest-second : (at : ℕ) → length e ≤ at → at < length e + length n
+      → take (length n - (at - length e)) (drop (at - length e) n) ≡ take (end at - at) (drop at (e ++ (n ++ p)))
+  rest-second at behind here =
+      let is = end-of-second (length e) (length n) (length p) at behind here in
+      let left : end at - at ≡ length n - (at - length e) = omega (arith, is, behind) in
+      sym (ap₂ take left (drop-behind at e (n ++ p) behind) ∙ rest-here (at - length e) n p (omega (arith, behind, here)))
+
+  pub rest-third : (at : ℕ) → length e + length n ≤ at
+      → take (length p - (at - length e - length n)) (drop (at - length e - length n) p) ≡ take (end at - at) (drop at (e ++ (n ++ p)))
+  rest-third at behind =
+      let is = end-of-third (length e) (length n) (length p) at behind in
+      let left : end at - at ≡ length p - (at - length e - length n) = omega (arith, is, behind) in
+      let first : length e ≤ at = omega (arith, behind) in
+      let second : length n ≤ at - length e = omega (arith, behind) in
+      sym (ap₂ take left (drop-behind at e (n ++ p) first ∙ drop-behind (at - length e) n p second))
 
   -- what a reading reads is as long as the place moves
   pub length-rest : (at : ℕ) {s : List ℕ} → s ≡ take (end at - at) (drop at (e ++ (n ++ p))) → length s ≡ end at - at

@@ -4,7 +4,7 @@ use mathlib.Core.Path.{_≡_, sym, subst}
 use native.Mathlib.Omega.{arith}
 use lib.ListN.{length, take, drop}
 use lib.Seq.{take-add, take-all, length-take-le}
-use Rattle.sha256.specs.Fed.{HasRead, Fed}
+use Rattle.sha256.specs.Fed.{HasRead}
 use Rattle.sha256.proofs.Feeding.{read-padded}
 use Rattle.compression.proofs.Stores.{length-part}
 use borrow.Author.Needs.{needs}

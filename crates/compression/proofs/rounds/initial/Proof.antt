@@ -1,13 +1,9 @@
 -- Assumes nothing.
-use borrow.Author.Needs.{needs}
 use mathlib.Core.Path.{refl}
 use Rattle.standard.specs.Sha256.{initial256}
 use Rattle.compression.proofs.rounds.initial.Statement.{statement}
 use Rattle.compression.proofs.rounds.initial.Tie as tie
-use Rattle.compression.proofs.rounds.initial.Reads as reads
-use Rattle.compression.proofs.rounds.initial.Lts as lts
 
--- src/rounds.rt:91:1
 returns : tie.Need-returns
 unfolding initial256
 returns c = refl

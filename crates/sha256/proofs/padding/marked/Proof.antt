@@ -43,4 +43,7 @@ returns c =
     append-assoc (take (a .fill) (a .old)) (128 ∷ []) (replicate (63 - a .fill) 0)
 
 pub marked-spec : {M : Type 1} → statement M
-marked-spec = tie.close (tie.spec Inv-loop μ-loop (λ c. search needs) (λ c. search needs) loop-holds (λ c. search needs) (λ c. search needs) (λ c. search needs) loop-again returns)
+marked-spec =
+    tie.close
+    (tie.spec Inv-loop μ-loop (λ c. search needs) (λ c. search needs) loop-holds (λ c. search needs) (λ c. search needs)
+    (λ c. search needs) loop-again returns)

@@ -1,8 +1,7 @@
 -- From the last byte on. Assumes nothing.
 use Prim.Native.Nat.{_%_, _-_, _≤_}
-use mathlib.Core.Path.{_≡_, sym, ap, ap₂, _∙_}
+use mathlib.Core.Path.{_≡_, sym, ap₂, _∙_}
 use mathlib.Core.List.{_++_, append-nil}
-use native.Mathlib.Nat.{le-of-eq}
 use native.Mathlib.Omega.{arith}
 use lib.ListN.{length, take, drop, drop-of-length-le, take-append-drop}
 use lib.Seq.{take-set-le}
@@ -42,4 +41,7 @@ returns c =
     sym (take-append-drop 56 (l .block)) ∙ ap₂ (λ p q. p ++ q) (l .inv .3) (rw all at (l .inv .4))
 
 pub with-length-spec : {M : Type 1} → statement M
-with-length-spec = tie.close (tie.spec Inv-loop μ-loop loop-holds (λ c. search needs) (λ c. search needs) (λ c. search needs) (λ c. search needs) loop-again returns)
+with-length-spec =
+    tie.close
+    (tie.spec Inv-loop μ-loop loop-holds (λ c. search needs) (λ c. search needs) (λ c. search needs) (λ c. search needs) loop-again
+    returns)

@@ -60,4 +60,6 @@ returns-2 c =
     (omega arith) (block-is (c .before)) (length-block (c .before))
 
 pub step-spec : {M : Type 1} → statement M
-step-spec = tie.close (tie.spec (λ c κs. search needs) (λ c. search needs) (λ c. search needs) returns (λ c κs. search needs) absorb-requires returns-2)
+step-spec =
+    tie.close
+    (tie.spec (λ c κs. search needs) (λ c. search needs) (λ c. search needs) returns (λ c κs. search needs) absorb-requires returns-2)

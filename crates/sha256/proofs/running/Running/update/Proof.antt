@@ -1,7 +1,6 @@
 -- The first bytes of s at each place. Assumes nothing.
-use Prim.Native.Nat.{_+_, _-_, _≤_}
-use mathlib.Core.Path.{_≡_, sym, subst, ap, _∙_}
-use native.Mathlib.Nat.{le-refl}
+use Prim.Native.Nat.{_-_, _≤_}
+use mathlib.Core.Path.{sym, subst}
 use native.Mathlib.Omega.{arith}
 use lib.ListN.{length, take}
 use lib.Seq.{take-add, take-all, length-take-le}
@@ -41,4 +40,7 @@ returns c =
     subst (λ x. Fed (a .self) x (c .before .loop .h)) (take-all (c .before .loop .at) (a .s .now) (c .loop-test .left)) (c .before .loop .inv .1)
 
 pub update-spec : {M : Type 1} → statement M
-update-spec = tie.close (tie.spec Inv-loop μ-loop loop-holds (λ c. search needs) (λ c. search needs) (λ c κs. search needs) step-requires (λ c. search needs) (λ c. search needs) loop-again returns)
+update-spec =
+    tie.close
+    (tie.spec Inv-loop μ-loop loop-holds (λ c. search needs) (λ c. search needs) (λ c κs. search needs) step-requires
+    (λ c. search needs) (λ c. search needs) loop-again returns)
