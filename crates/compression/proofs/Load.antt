@@ -1,4 +1,4 @@
--- A word of four bytes, read byte by byte. Assumes nothing.
+-- A word of four bytes, read byte by byte: the first byte is the highest. Assumes nothing.
 use mathlib.Core.Path.{_≡_, ap, _∙_}
 use mathlib.Core.List.{List, [], _∷_}
 use Prim.Native.Nat.{ℕ, _+_, _*_, _<_, _≤_}
@@ -13,7 +13,8 @@ use Rattle.standard.specs.Sha256.{sha256}
 pub drop-more : (s : List ℕ) (i : ℕ) → i < length s → drop i s ≡ getD s i 0 ∷ drop (i + 1) s
 drop-more s i h = rw (add-one, drop-cons s i 0)
 
-four-bytes : (s : List ℕ) (i : ℕ) → i + 4 ≤ length s → take 4 (drop i s) ≡ getD s i 0 ∷ getD s (i + 1) 0 ∷ getD s (i + 1 + 1) 0 ∷ getD s (i + 1 + 1 + 1) 0 ∷ []
+four-bytes : (s : List ℕ) (i : ℕ) → i + 4 ≤ length s
+    → take 4 (drop i s) ≡ getD s i 0 ∷ getD s (i + 1) 0 ∷ getD s (i + 1 + 1) 0 ∷ getD s (i + 1 + 1 + 1) 0 ∷ []
 four-bytes s i h =
     ap (take 4)
     (drop-more s i (omega arith) ∙

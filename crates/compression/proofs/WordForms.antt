@@ -1,7 +1,8 @@
 -- Other forms of the functions on words, for words of any width: fewer operations, or fewer copies, than the document's. Assumes nothing.
 use mathlib.Core.Path.{_≡_, refl, sym, ap, ap₂, _∙_, subst}
 use Prim.Native.Nat.{ℕ, zero, suc, _+_, _-_, _*_, _/_, _%_, _^_, _≤_, _<_}
-use native.Mathlib.Nat.{le-of-suc-le-suc, not-suc-le-zero, add-zero, add-assoc, add-mul, mul-assoc, mul-comm, mul-mod-left, mul-add-mod-self-right, mul-add-div-right, div-add-mod', mod-lt, mod-eq-of-lt}
+use native.Mathlib.Nat.{le-of-suc-le-suc, not-suc-le-zero, add-zero, add-assoc, add-mul, mul-assoc, mul-comm, mul-mod-left}
+use native.Mathlib.Nat.{mul-add-mod-self-right, mul-add-div-right, div-add-mod', mod-lt, mod-eq-of-lt}
 use native.Mathlib.Omega.{arith}
 use native.Mathlib.Numerals.{add-one}
 use lib.Arith.{lt-one}
@@ -144,8 +145,8 @@ ROTR-twice w a c x inside h =
     let m = x / 2 ^ c in
     let top : w - c ≡ r + a = omega arith in
     let low : w - a ≡ r + c = omega arith in
-    let once : ROTR w c x ≡ l * 2 ^ r * 2 ^ a + m =
-    rotation w c x (omega arith) h ∙ ap (λ k. k + m) (ap (λ k. l * 2 ^ k) top ∙ ap (λ k. l * k) (pow-add 2 r a) ∙ sym (mul-assoc l (2 ^ r) (2 ^ a))) in
+    let shifted = ap (λ k. l * 2 ^ k) top ∙ ap (λ k. l * k) (pow-add 2 r a) ∙ sym (mul-assoc l (2 ^ r) (2 ^ a)) in
+    let once : ROTR w c x ≡ l * 2 ^ r * 2 ^ a + m = rotation w c x (omega arith) h ∙ ap (λ k. k + m) shifted in
     rotation w a (ROTR w c x) (omega arith) (ROTR-lt w c x h) ∙
     ap₂ (λ y k. y % 2 ^ a * 2 ^ k + y / 2 ^ a) once low ∙
     ap₂ (λ p q. p * 2 ^ (r + c) + q) (mul-add-mod-self-right (l * 2 ^ r) (2 ^ a) m)

@@ -1,4 +1,4 @@
--- The first i bytes at each i. Assumes nothing.
+-- At each i the first i bytes are pasted. Assumes nothing.
 use Prim.Native.Nat.{_+_, _-_, _≤_}
 use mathlib.Core.Path.{_≡_, sym, ap, _∙_}
 use native.Mathlib.Numerals.{add-one}

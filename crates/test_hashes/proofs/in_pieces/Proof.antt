@@ -22,8 +22,9 @@ loop-holds c = (search needs, c .new .ensures)
 
 update-requires : tie.Need-update-requires Inv-loop μ-loop
 update-requires c κs =
-    let l = c .before .before .before .loop in
-    let s = c .before .before .before .before .before .before .args .s .now in
+    let head = c .before .before .before in
+    let l = head .loop in
+    let s = head .before .before .before .args .s .now in
     let n = c .before .least .result in
     let size : l .at + n - l .at ≡ n = omega arith in
     let part : length (take (l .at + n - l .at) (drop (l .at) s)) ≡ n = rw size (length-part s (l .at) n (omega arith)) in
@@ -31,9 +32,11 @@ update-requires c κs =
 
 loop-again : tie.Need-loop-again Inv-loop μ-loop
 loop-again c =
-    let l = c .before .before .before .before .loop in
-    let s = c .before .before .before .before .before .before .before .args .s .now in
-    let n = c .before .before .least .result in
+    let least = c .before .before in
+    let head = least .before .before in
+    let l = head .loop in
+    let s = head .before .before .before .args .s .now in
+    let n = least .least .result in
     let size : l .at + n - l .at ≡ n = omega arith in (
       search needs,
       subst (λ x. HasRead x (c .update .result)) (sym (take-add (l .at) n s)) (rw size at (c .update .ensures) .after _ (l .inv .1)),
@@ -41,16 +44,20 @@ loop-again c =
 
 finish-requires : tie.Need-finish-requires Inv-loop μ-loop
 finish-requires c κs =
-    let l = c .before .loop in
-    let s = c .before .before .before .before .args .s .now in
+    let head = c .before in
+    let l = head .loop in
+    let s = head .before .before .before .args .s .now in
     record { few = l .inv .1 .few; room = omega (arith, l .inv .1 .length-is, length-take-le (l .at) s (l .inv .0)) }
 
 returns : tie.Need-returns Inv-loop μ-loop
 returns c =
-    let l = c .before .before .before .loop in
-    let s = c .before .before .before .before .before .before .args .s .now in
-    let all : HasRead s (l .h) = subst (λ x. HasRead x (l .h)) (take-all (l .at) s (c .before .before .loop-test .left)) (l .inv .1) in
-    c .digest .ensures _ (read-padded all (c .before .finish .ensures))
+    let finished = c .before in
+    let ended = finished .before in
+    let head = ended .before in
+    let l = head .loop in
+    let s = head .before .before .before .args .s .now in
+    let all : HasRead s (l .h) = subst (λ x. HasRead x (l .h)) (take-all (l .at) s (ended .loop-test .left)) (l .inv .1) in
+    c .digest .ensures _ (read-padded all (finished .finish .ensures))
 
 pub in-pieces-spec : {M : Type 1} → statement M
 in-pieces-spec =

@@ -1,4 +1,4 @@
--- The words one behind the other. Assumes nothing.
+-- The words one behind the other fill the 32 bytes. cₙ is what is known once n words are stored. Assumes nothing.
 use Prim.Native.Nat.{_≤_}
 use mathlib.Core.Path.{sym, _∙_}
 use mathlib.Core.List.{append-assoc}
@@ -14,16 +14,18 @@ returns : tie.Need-returns
 unfolding digest
 returns c =
     let whole : length (c .with-word8 .result) ≤ 32 = omega arith in
+    let c₇ = c .before in let c₆ = c₇ .before in let c₅ = c₆ .before in let c₄ = c₅ .before in
+    let c₃ = c₄ .before in let c₂ = c₃ .before in let c₁ = c₂ .before in
     sym (take-all 32 (c .with-word8 .result) whole) ∙
     rw (
       c .with-word8 .ensures,
-      c .before .with-word7 .ensures,
-      c .before .before .with-word6 .ensures,
-      c .before .before .before .with-word5 .ensures,
-      c .before .before .before .before .with-word4 .ensures,
-      c .before .before .before .before .before .with-word3 .ensures,
-      c .before .before .before .before .before .before .with-word2 .ensures,
-      c .before .before .before .before .before .before .before .with-word .ensures,
+      c₇ .with-word7 .ensures,
+      c₆ .with-word6 .ensures,
+      c₅ .with-word5 .ensures,
+      c₄ .with-word4 .ensures,
+      c₃ .with-word3 .ensures,
+      c₂ .with-word2 .ensures,
+      c₁ .with-word .ensures,
     )
     (simp append-assoc)
 

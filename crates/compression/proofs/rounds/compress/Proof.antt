@@ -1,4 +1,4 @@
--- Steps 1 to 4. Assumes nothing.
+-- Steps 1 to 4, each by its function's promise; the constants are written out on both sides. Assumes nothing.
 use mathlib.Core.Path.{refl, _∙_}
 use Rattle.standard.specs.Hash.{compressed}
 use Rattle.standard.specs.Sha256.{K256}

@@ -1,4 +1,4 @@
--- Assumes nothing.
+-- The eight words are written out on both sides. Assumes nothing.
 use mathlib.Core.Path.{refl}
 use Rattle.standard.specs.Sha256.{initial256}
 use Rattle.compression.proofs.rounds.initial.Statement.{statement}

@@ -1,5 +1,6 @@
--- Step 3's T₁, sum by sum. Assumes nothing.
+-- Step 3's T₁, sum by sum; Ch takes e, f and g in this order. Assumes nothing.
 use mathlib.Core.Path.{_≡_, _∙_}
+use native.Mathlib.Omega.{arith}
 use Rattle.standard.specs.Words.{Ch}
 use Rattle.standard.specs.Hash.{T₁}
 use borrow.Author.Needs.{needs}
@@ -9,16 +10,15 @@ use Rattle.compression.proofs.rounds.t1.Tie as tie
 returns : tie.Need-returns
 unfolding T₁
 returns c =
-    let s = c .before .before .before .before .before .before .args .s in
-    let chosen : c .before .before .before .ch .result ≡ Ch 32 (s .e) (s .f) (s .g) = c .before .before .before .ch .ensures in
+    let third = c .before in
+    let second = third .before in
+    let choice = second .before in
+    let first = choice .before in
+    let mixed = first .before in
+    let s = mixed .before .args .s in
+    let chosen : choice .ch .result ≡ Ch 32 (s .e) (s .f) (s .g) = omega (arith, choice .ch .ensures) in
     c .sum4 .ensures ∙
-    rw (
-      c .before .sum3 .ensures,
-      c .before .before .sum2 .ensures,
-      chosen,
-      c .before .before .before .before .sum .ensures,
-      c .before .before .before .before .before .upper-sigma-1 .ensures,
-    )
+    rw (third .sum3 .ensures, second .sum2 .ensures, chosen, first .sum .ensures, mixed .upper-sigma-1 .ensures)
 
 pub t1-spec : {M : Type 1} → statement M
 t1-spec =

@@ -7,7 +7,9 @@ use Rattle.compression.proofs.rounds.turned.Tie as tie
 returns : tie.Need-returns
 unfolding turn
 returns c =
-    rw (c .sum2 .ensures, c .before .sum .ensures, c .before .before .t2 .ensures, c .before .before .before .t1 .ensures)
+    let new-a = c .before in
+    let second = new-a .before in
+    rw (c .sum2 .ensures, new-a .sum .ensures, second .t2 .ensures, second .before .t1 .ensures)
 
 pub turned-spec : {M : Type 1} → statement M
 turned-spec = tie.close (tie.spec (λ c κs. search needs) (λ c κs. search needs) (λ c κs. search needs) (λ c κs. search needs) returns)

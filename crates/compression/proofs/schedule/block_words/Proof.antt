@@ -1,4 +1,4 @@
--- The first t words at each t up to 16. Assumes nothing.
+-- At each t the first t words are those of the block. Assumes nothing.
 use Prim.Native.Nat.{_≤_, _-_}
 use mathlib.Core.Path.{_≡_}
 use native.Mathlib.Omega.{arith}
@@ -22,10 +22,11 @@ loop-holds c = search needs
 
 loop-again : tie.Need-loop-again Inv-loop μ-loop
 loop-again c =
-    let l = c .before .before .loop in (
+    let l = c .before .before .loop in
+    let word = c .word-at in (
       search needs,
       search needs,
-      block-word-stored sha256 _ (l .w) (l .t) (c .word-at .result) (omega arith) (l .inv .2) (c .before .loop-test .taken) (c .word-at .ensures),
+      block-word-stored sha256 _ (l .w) (l .t) (word .result) (omega arith) (l .inv .2) (c .before .loop-test .taken) (word .ensures),
     )
 
 returns : tie.Need-returns Inv-loop μ-loop

@@ -1,4 +1,4 @@
--- The zeros up to i at each i. Assumes nothing.
+-- At each i zeros stand from the mark to i. Assumes nothing.
 use Prim.Native.Nat.{_+_, _-_, _≤_}
 use mathlib.Core.Path.{_≡_, sym, ap, _∙_}
 use mathlib.Core.List.{[], _∷_, _++_, append-nil, append-assoc}

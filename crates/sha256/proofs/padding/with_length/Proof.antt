@@ -1,4 +1,4 @@
--- From the last byte on. Assumes nothing.
+-- At each i the bytes from i on, behind those of the rest, are those of the length. Assumes nothing.
 use Prim.Native.Nat.{_%_, _-_, _≤_}
 use mathlib.Core.Path.{_≡_, sym, ap₂, _∙_}
 use mathlib.Core.List.{_++_, append-nil}

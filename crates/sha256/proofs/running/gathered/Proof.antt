@@ -1,4 +1,4 @@
--- The first i bytes at each i. Assumes nothing.
+-- At each i the first i bytes stand behind what waited. Assumes nothing.
 use Prim.Native.Nat.{_+_, _-_, _≤_}
 use mathlib.Core.Path.{_≡_}
 use mathlib.Core.List.{_++_, append-nil}
@@ -11,7 +11,8 @@ use Rattle.sha256.proofs.running.gathered.Statement.{statement}
 use Rattle.sha256.proofs.running.gathered.Tie as tie
 
 abbrev Inv-loop : tie.InvT-loop
-Inv-loop fill s at n scratch₀ i₀ scratch i = (i ≤ n) × (length scratch ≡ 64) × (take (fill + i) scratch ≡ take fill scratch₀ ++ take i (drop at s))
+Inv-loop fill s at n scratch₀ i₀ scratch i =
+    (i ≤ n) × (length scratch ≡ 64) × (take (fill + i) scratch ≡ take fill scratch₀ ++ take i (drop at s))
 
 abbrev μ-loop : tie.MeasureT-loop
 μ-loop fill s at n scratch₀ i₀ scratch i = n - i

@@ -1,4 +1,4 @@
--- The first bytes of s at each place. Assumes nothing.
+-- At each place the hash has read what of s stands before it. Assumes nothing.
 use Prim.Native.Nat.{_-_, _≤_}
 use mathlib.Core.Path.{sym, subst}
 use native.Mathlib.Omega.{arith}
@@ -36,8 +36,9 @@ loop-again c =
 
 returns : tie.Need-returns Inv-loop μ-loop
 returns c =
+    let l = c .before .loop in
     let a = c .before .before .before .args in
-    subst (λ x. Fed (a .self) x (c .before .loop .h)) (take-all (c .before .loop .at) (a .s .now) (c .loop-test .left)) (c .before .loop .inv .1)
+    subst (λ x. Fed (a .self) x (l .h)) (take-all (l .at) (a .s .now) (c .loop-test .left)) (l .inv .1)
 
 pub update-spec : {M : Type 1} → statement M
 update-spec =
