@@ -2,4 +2,5 @@
 pub mod Feeding
 pub mod LastBlocks
 pub mod Reading
+pub mod Scratch
 pub mod Walks

@@ -28,55 +28,31 @@ module _ (e n p at : ℕ) where
   end-of-third : e + n ≤ at → stringEnd e n p at ≡ e + n + p
   end-of-third behind = rw (le-ltb at e (omega (arith, behind)), le-ltb at (e + n) behind)
 
-  -- a place, and the end of the string that it stands in
-  data Stands : Type 0 where
-    in-first : at < e → stringEnd e n p at ≡ e → Stands
-    in-second : e ≤ at → at < e + n → stringEnd e n p at ≡ e + n → Stands
-    in-third : e + n ≤ at → stringEnd e n p at ≡ e + n + p → Stands
-
-  stands : Stands
-  stands = first (decLt at e)
+  -- what holds of the end of each string, where the place stands in it, holds of the end of the string that the place stands in
+  by-string : (P : ℕ → Type 0) → (at < e → P e) → (e ≤ at → at < e + n → P (e + n)) → (e + n ≤ at → P (e + n + p)) → P (stringEnd e n p at)
+  by-string P first second third = go (decLt at e) (decLt at (e + n))
     where
-      second : e ≤ at → Dec (at < e + n) → Stands
-      second behind (yes here) = in-second behind here (end-of-second behind here)
-      second behind (no far) = in-third (omega (arith, far)) (end-of-third (omega (arith, far)))
-
-      first : Dec (at < e) → Stands
-      first (yes here) = in-first here (end-of-first here)
-      first (no far) = second (omega (arith, far)) (decLt at (e + n))
+      go : Dec (at < e) → Dec (at < e + n) → P (stringEnd e n p at)
+      go (yes here) _ = subst P (sym (end-of-first here)) (first here)
+      go (no far) (yes here) =
+          let behind : e ≤ at = omega (arith, far) in
+          subst P (sym (end-of-second behind here)) (second behind here)
+      go (no _) (no far) =
+          let behind : e + n ≤ at = omega (arith, far) in
+          subst P (sym (end-of-third behind)) (third behind)
 
   end-inside : stringEnd e n p at ≤ e + n + p
-  end-inside = go stands
-    where
-      go : Stands → stringEnd e n p at ≤ e + n + p
-      go (in-first here is) = omega (arith, is)
-      go (in-second behind here is) = omega (arith, is)
-      go (in-third behind is) = omega (arith, is)
+  end-inside = by-string (λ k. k ≤ e + n + p) (λ _. omega arith) (λ _ _. omega arith) (λ _. omega arith)
 
   end-ahead : at ≤ e + n + p → at ≤ stringEnd e n p at
-  end-ahead inside = go stands
-    where
-      go : Stands → at ≤ stringEnd e n p at
-      go (in-first here is) = omega (arith, here, is)
-      go (in-second behind here is) = omega (arith, here, is)
-      go (in-third behind is) = omega (arith, inside, is)
+  end-ahead inside = by-string (λ k. at ≤ k) (λ here. omega arith) (λ _ here. omega arith) (λ _. omega (arith, inside))
 
   -- the end of the first string is reached by one reading at the latest, that of the second by two, and the end of all by three
   first-reached : e ≤ stringEnd e n p at
-  first-reached = go stands
-    where
-      go : Stands → e ≤ stringEnd e n p at
-      go (in-first here is) = omega (arith, is)
-      go (in-second behind here is) = omega (arith, is)
-      go (in-third behind is) = omega (arith, is)
+  first-reached = by-string (λ k. e ≤ k) (λ _. omega arith) (λ _ _. omega arith) (λ _. omega arith)
 
   second-reached : e ≤ at → e + n ≤ stringEnd e n p at
-  second-reached behind = go stands
-    where
-      go : Stands → e + n ≤ stringEnd e n p at
-      go (in-first here is) = omega (arith, behind, here)
-      go (in-second _ here is) = omega (arith, is)
-      go (in-third _ is) = omega (arith, is)
+  second-reached behind = by-string (λ k. e + n ≤ k) (λ here. omega (arith, behind, here)) (λ _ _. omega arith) (λ _. omega arith)
 
 -- ---- what stands there
 -- a place in the first of two strings joined: the rest of that string

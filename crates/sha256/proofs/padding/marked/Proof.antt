@@ -6,7 +6,8 @@ use native.Mathlib.Nat.{sub-self, le-of-eq}
 use native.Mathlib.Omega.{arith}
 use lib.ListN.{length, take, set, replicate}
 use lib.Seq.{take-all}
-use Rattle.compression.proofs.Stores.{take-more-set, zeros-more}
+use Rattle.compression.proofs.Stores.{take-more-set}
+use Rattle.sha256.proofs.Scratch.{zeros-more}
 use borrow.Author.Needs.{needs}
 use Rattle.sha256.proofs.padding.marked.Statement.{statement}
 use Rattle.sha256.proofs.padding.marked.Tie as tie

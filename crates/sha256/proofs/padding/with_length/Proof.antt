@@ -6,7 +6,7 @@ use native.Mathlib.Omega.{arith}
 use lib.ListN.{length, take, drop, drop-of-length-le, take-append-drop}
 use lib.Seq.{take-set-le}
 use Rattle.standard.specs.Strings.{bytesOf}
-use Rattle.compression.proofs.Stores.{number-more}
+use Rattle.sha256.proofs.Scratch.{number-more}
 use borrow.Author.Needs.{needs}
 use Rattle.sha256.proofs.padding.with_length.Statement.{statement}
 use Rattle.sha256.proofs.padding.with_length.Tie as tie

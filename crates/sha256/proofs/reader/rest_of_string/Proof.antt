@@ -1,5 +1,5 @@
 -- The place lies in the first string, or behind it in the second, or behind both. Assumes nothing.
-use Prim.Native.Nat.{_+_, _≤_, _<_}
+use Prim.Native.Nat.{_+_, _<_}
 use native.Mathlib.Omega.{arith}
 use lib.ListN.{length}
 use Rattle.sha256.proofs.Reading.{rest-first, rest-second, rest-third}

@@ -5,7 +5,7 @@ use mathlib.Core.List.{_++_, append-nil}
 use native.Mathlib.Nat.{add-zero}
 use native.Mathlib.Omega.{arith}
 use lib.ListN.{length, take, drop}
-use Rattle.compression.proofs.Stores.{copied-more}
+use Rattle.sha256.proofs.Scratch.{copied-more}
 use borrow.Author.Needs.{needs}
 use Rattle.sha256.proofs.running.gathered.Statement.{statement}
 use Rattle.sha256.proofs.running.gathered.Tie as tie

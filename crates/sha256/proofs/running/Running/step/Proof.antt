@@ -8,7 +8,8 @@ use native.Mathlib.Omega.{arith}
 use lib.Dec.{ltb}
 use lib.ListN.{length, take, drop, length-append}
 use Rattle.sha256.proofs.Feeding.{fed-part, fed-whole}
-use Rattle.compression.proofs.Stores.{picked-block, length-before, length-part}
+use Rattle.sha256.proofs.Scratch.{picked-block, length-before}
+use Rattle.compression.proofs.Stores.{length-part}
 use borrow.Author.Needs.{needs}
 use Rattle.sha256.proofs.running.Running.step.Statement.{statement}
 use Rattle.sha256.proofs.running.Running.step.Tie as tie
