@@ -1,5 +1,5 @@
 // Bare compressions, for the bench: nothing but the blocks of a text, each absorbed into the words of the one before.
-use sha256::rounds;
+use compression::rounds;
 ghost use mathlib.Core.Path.{_≡_};
 ghost use Prim.Native.Nat.{_/_};
 ghost use lib.ListN.{length};

@@ -9,7 +9,8 @@ use lib.Seq.{paste, take-all, take-append-add, take-at, take-take, length-take-l
 
 pub pasted : (d s : List ℕ) (at n : ℕ) → length s ≡ n → paste d at s (length s) ≡ take at d ++ (s ++ drop (at + n) d)
 pasted d s at n size =
-    rw size (append-assoc (take at d) (take n s) (drop (at + n) d)) ∙ ap (λ p. take at d ++ (p ++ drop (at + n) d)) (take-all n s (le-of-eq size))
+    rw size (append-assoc (take at d) (take n s) (drop (at + n) d)) ∙
+    ap (λ p. take at d ++ (p ++ drop (at + n) d)) (take-all n s (le-of-eq size))
 
 -- the first bytes of two strings that end in the second
 pub take-both : (a b : List ℕ) (n k : ℕ) → length a ≡ n → take (n + k) (a ++ b) ≡ a ++ take k b

@@ -8,7 +8,7 @@ use lib.ListN.{length, getD, take, drop, set, length-append, drop-of-length-le}
 use lib.Seq.{paste, take-add, take-at, drop-at, drop-drop, drop-cons, length-take-le}
 use Rattle.standard.specs.Strings.{numberOf, bytesOf, Bytes}
 use Rattle.standard.proofs.Strings.{bytes-nil, bytes-cons, bytesOf-numberOf, length-bytesOf, numberOf-append, numberOf-bytesOf}
-use Rattle.sha256.proofs.Stores.{take-more, take-more-set}
+use Rattle.compression.proofs.Stores.{take-more, take-more-set}
 use Rattle.drbg_hash.specs.Limbs.{stringOf, valueIn, Marked}
 use Rattle.copies.proofs.Pasted.{pasted}
 

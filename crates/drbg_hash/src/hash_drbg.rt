@@ -1,10 +1,10 @@
 // SP 800-90A §10.1.1: Hash_DRBG over SHA-256.
 use crate::hash_df;
 use crate::sums;
+use compression::digest;
+use compression::rounds;
 use drbg_hmac::joined;
 use drbg_hmac::output;
-use sha256::digest;
-use sha256::rounds;
 ghost use mathlib.Core.Path.{_≡_};
 ghost use mathlib.Core.List.{[], _∷_, _++_};
 ghost use Prim.Native.Nat.{_≤_};

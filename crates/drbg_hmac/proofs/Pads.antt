@@ -11,7 +11,7 @@ use borrow.Author.Tests.{le-leb}
 use Rattle.standard.specs.Metered.{Metered, return}
 use Rattle.standard.specs.Hmac.{Key, xored, filled, key}
 use Rattle.standard.specs.Sha256.{sha256}
-use Rattle.sha256.proofs.Stores.{take-more}
+use Rattle.compression.proofs.Stores.{take-more}
 use Rattle.drbg_hmac.specs.Keys.{ready}
 
 pub xored-more : (pad : ℕ) (s : List ℕ) (i : ℕ) → i < length s

@@ -1,7 +1,7 @@
 // FIPS 198-1: HMAC under a key of 32 bytes.
 use crate::joined;
-use sha256::digest;
-use sha256::rounds;
+use compression::digest;
+use compression::rounds;
 use sha256::running::Digest;
 use sha256::running::Running;
 ghost use mathlib.Core.Path.{_≡_};

@@ -1,18 +1,18 @@
 -- A running hash that reads: a part of a block, the rest of a block, and one string after another. Assumes nothing.
-use mathlib.Core.Path.{_≡_, refl, sym, ap, ap₂, _∙_, subst}
-use mathlib.Core.List.{List, [], _∷_, _++_, append-assoc, append-nil}
-use Prim.Native.Nat.{ℕ, zero, _+_, _*_, _/_, _≤_, _<_}
+use mathlib.Core.Path.{_≡_, sym, ap, ap₂, _∙_, subst}
+use mathlib.Core.List.{List, [], _++_, append-assoc, append-nil}
+use Prim.Native.Nat.{ℕ, _+_, _*_, _/_, _≤_, _<_}
 use native.Mathlib.Nat.{le-of-eq, add-zero}
 use lib.Dec.{lit<}
 use native.Mathlib.Omega.{arith}
-use lib.ListN.{length, take, drop, length-append, length-take, length-drop, drop-of-length-le}
+use lib.ListN.{length, take, drop, length-append, drop-of-length-le}
 use lib.Seq.{drop-append-le, take-all}
 use Rattle.standard.specs.Hash.{blockAt, compressed, absorbed, padding, padded, digest, hash}
 use Rattle.standard.specs.Sha256.{sha256}
 use Rattle.standard.proofs.Hash.{absorbed-append, absorbed-more}
 use Rattle.standard.proofs.Counts.{absorbed-blocks}
 use Rattle.standard.proofs.Lengths.{length-padded}
-use Rattle.sha256.specs.Values.{eightOf}
+use Rattle.compression.specs.Values.{eightOf}
 use Rattle.sha256.specs.Fed.{HasRead, Fed, Absorbed, bytesRead}
 use Rattle.sha256.specs.declared.running.Running.{Running}
 

@@ -1,10 +1,10 @@
 -- A message's last blocks as the code makes them: one where the length still fits behind the marked byte, else two. Assumes nothing.
-use mathlib.Core.Path.{_≡_, refl, sym, ap, ap₂, subst, _∙_}
-use mathlib.Core.List.{List, [], _∷_, _++_, append-assoc}
+use mathlib.Core.Path.{_≡_, sym, ap, ap₂, subst, _∙_}
+use mathlib.Core.List.{List, _∷_, _++_, append-assoc}
 use Prim.Native.Nat.{ℕ, _+_, _-_, _*_, _%_, _≤_, _<_}
 use native.Mathlib.Omega.{arith}
 use lib.ListN.{length, take, replicate, length-append, length-replicate, replicate-append-replicate}
-use lib.Seq.{take-at, length-take-le}
+use lib.Seq.{take-at}
 use Rattle.standard.specs.Strings.{bytesOf}
 use Rattle.standard.specs.Hash.{zeros, padding}
 use Rattle.standard.specs.Sha256.{sha256}
@@ -41,7 +41,8 @@ module _ (p : List ℕ) (blocks fill : ℕ) (filled : length p ≡ fill) where
       sym (rw count)
 
   last-of-two :
-      56 ≤ fill → fill < 64 → (0x80 ∷ replicate (63 - fill) 0) ++ (replicate 56 0 ++ bytesOf 8 ((64 * blocks + fill) % 2305843009213693952 * 8))
+      56 ≤ fill → fill < 64
+      → (0x80 ∷ replicate (63 - fill) 0) ++ (replicate 56 0 ++ bytesOf 8 ((64 * blocks + fill) % 2305843009213693952 * 8))
       ≡ padding sha256 (64 * blocks + fill)
   unfolding padding zeros
   last-of-two many few =
@@ -53,28 +54,35 @@ module _ (p : List ℕ) (blocks fill : ℕ) (filled : length p ≡ fill) where
 -- the block in which the padding begins, and the one with the length at its end
 module _ (h : Running) (first : List ℕ) (size : length first ≡ 64) (few : h .waiting < 64)
     (first-is : first ≡ take (h .waiting) (h .scratch) ++ (0x80 ∷ replicate (63 - h .waiting) 0)) where
-  length-waits : length (take (h .waiting) (h .scratch)) ≡ h .waiting
+  -- what waits, the mark behind it, and the length field
+  abbrev waits : List ℕ
+  waits = take (h .waiting) (h .scratch)
+
+  abbrev mark : List ℕ
+  mark = 0x80 ∷ replicate (63 - h .waiting) 0
+
+  abbrev field : List ℕ
+  field = bytesOf 8 (bytesRead h % 2305843009213693952 * 8)
+
+  length-waits : length waits ≡ h .waiting
   length-waits =
-      let parts = length-append (take (h .waiting) (h .scratch)) (0x80 ∷ replicate (63 - h .waiting) 0) in
+      let parts = length-append waits mark in
       let marks = length-replicate {A = ℕ} (63 - h .waiting) 0 in
       omega (arith, ap length first-is)
 
-  pub fed-one-block :
-      (r : Running) (last : List ℕ) → h .waiting < 56 → last ≡ take 56 first ++ bytesOf 8 (bytesRead h % 2305843009213693952 * 8) → length last ≡ 64
-      → Absorbed h last r → Fed h (padding sha256 (bytesRead h)) r
+  pub fed-one-block : (r : Running) (last : List ℕ) → h .waiting < 56 → last ≡ take 56 first ++ field → length last ≡ 64 → Absorbed h last r
+      → Fed h (padding sha256 (bytesRead h)) r
   fed-one-block r last small last-is last-size done =
-      let long = length-padding-one (take (h .waiting) (h .scratch)) (h .blocks) (h .waiting) length-waits small in
-      fed-whole h r (padding sha256 (bytesRead h)) last done (omega arith)
-      (last-is ∙
-      ap (λ b. take 56 b ++ bytesOf 8 (bytesRead h % 2305843009213693952 * 8)) first-is ∙
-      last-of-one (take (h .waiting) (h .scratch)) (h .blocks) (h .waiting) length-waits small)
-      last-size
+      let long = length-padding-one waits (h .blocks) (h .waiting) length-waits small in
+      let is = last-is ∙ ap (λ b. take 56 b ++ field) first-is ∙ last-of-one waits (h .blocks) (h .waiting) length-waits small in
+      fed-whole h r (padding sha256 (bytesRead h)) last done (omega arith) is last-size
 
-  pub fed-two-blocks :
-      (q r : Running) (last : List ℕ) → 56 ≤ h .waiting → last ≡ replicate 56 0 ++ bytesOf 8 (bytesRead h % 2305843009213693952 * 8) → length last ≡ 64
+  pub fed-two-blocks : (q r : Running) (last : List ℕ) → 56 ≤ h .waiting → last ≡ replicate 56 0 ++ field → length last ≡ 64
       → Absorbed h first q → Absorbed q last r → Fed h (padding sha256 (bytesRead h)) r
   fed-two-blocks q r last many last-is last-size begun done =
       let marks = length-replicate {A = ℕ} (63 - h .waiting) 0 in
-      subst (λ x. Fed h x r) (ap (λ l. (0x80 ∷ replicate (63 - h .waiting) 0) ++ l) last-is ∙ last-of-two (take (h .waiting) (h .scratch)) (h .blocks) (h .waiting) length-waits many few)
-      (fed-then (fed-whole h q (0x80 ∷ replicate (63 - h .waiting) 0) first begun (omega arith) first-is size)
-      (fed-whole q r last last done (omega (arith, begun .none-waits)) (sym (ap (λ n. take n (q .scratch) ++ last) (begun .none-waits))) last-size))
+      let marked = fed-whole h q mark first begun (omega arith) first-is size in
+      let none = sym (ap (λ n. take n (q .scratch) ++ last) (begun .none-waits)) in
+      let ended = fed-whole q r last last done (omega (arith, begun .none-waits)) none last-size in
+      let is = ap (λ l. mark ++ l) last-is ∙ last-of-two waits (h .blocks) (h .waiting) length-waits many few in
+      subst (λ x. Fed h x r) is (fed-then marked ended)

@@ -1,6 +1,6 @@
 -- What the proofs of several functions share.
-pub mod Load
-pub mod WordForms
 pub mod Feeding
-pub mod Stores
 pub mod LastBlocks
+pub mod Reading
+pub mod Scratch
+pub mod Walks

@@ -5,7 +5,7 @@ use mathlib.Core.List.{List, _++_}
 use lib.ListN.{length, take, drop}
 use Rattle.standard.specs.Hash.{absorbed, compressed}
 use Rattle.standard.specs.Sha256.{sha256}
-use Rattle.sha256.specs.Values.{eightOf}
+use Rattle.compression.specs.Values.{eightOf}
 use Rattle.sha256.specs.declared.running.Running.{Running}
 
 -- the bytes read so far

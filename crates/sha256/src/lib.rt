@@ -1,8 +1,4 @@
-// SHA-256 in Rattle (FIPS 180-4 §6.2), proved equal to the definitions of the crate `standard`.
-pub mod digest;
+// SHA-256 in Rattle (FIPS 180-4 §6.2) over the compression of one block, proved equal to the definitions of the crate `standard`.
 pub mod padding;
 pub mod reader;
-pub mod rounds;
 pub mod running;
-pub mod schedule;
-pub mod words;

@@ -1,9 +1,9 @@
 // The running hash: a value that each absorbed block hands on. A block that lies whole inside a lent string is hashed from
 // that string; one that straddles an end, or holds padding, goes through the scratch block.
-use crate::digest;
 use crate::padding;
-use crate::rounds;
-use crate::rounds::Eight;
+use compression::digest;
+use compression::rounds;
+use compression::rounds::Eight;
 ghost use mathlib.Core.Path.{_≡_};
 ghost use mathlib.Core.Bool.{cond};
 ghost use mathlib.Core.List.{List, [], _++_};

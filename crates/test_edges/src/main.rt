@@ -1,6 +1,5 @@
 // Line 9 of document 01's edges, and an unsound table of each kind, run on the calls themselves: what a book can't reach.
 // A line holds a name, the answer's number, blocks and value, and for a draw the SHA-256 of the lent output as it then is.
-use libc::STDOUT_FILENO;
 use sha256::running;
 use slots::layout;
 use slots::sizes;
@@ -8,20 +7,10 @@ use slots::slot::Slot;
 use table::doors;
 use table::doors::Answer;
 use table::doors::Held;
+use test_output::print_bytes;
+use test_output::print_number;
+use test_output::print_text;
 ghost use Prim.Native.Nat.{_≤_, _<_};
-
-fn wide(b: u8) -> u64 {
-    b as u64
-}
-
-fn print_text(s: &[u8]) {
-    io::write_all(STDOUT_FILENO, s);
-}
-
-fn print_number(n: u64) {
-    print_text(b" ");
-    io::print_decimal(STDOUT_FILENO, n);
-}
 
 fn print_answer(name: &[u8], a: Answer) {
     print_text(name);
@@ -33,12 +22,6 @@ fn print_answer(name: &[u8], a: Answer) {
 fn print_open(name: &[u8], a: Answer) {
     print_answer(name, a);
     print_text(b"\n");
-}
-
-fn print_bytes(bytes: [u8; 32]) {
-    for i in 0..32 {
-        io::print_hex(STDOUT_FILENO, wide(bytes[i]), 2);
-    }
 }
 
 fn print_draw(name: &[u8], a: Answer, out: &[u8]) {

@@ -1,35 +1,25 @@
 // Hashes the files that its arguments name. A line holds the name, the size of the pieces in which the bytes were fed
 // (0: as one string), the blocks and the digest. The pieces end inside the blocks, on their ends and across them.
-use libc::STDOUT_FILENO;
 use sha256::running;
 use sha256::running::Digest;
 use sha256::running::Running;
+use test_output::print_bytes;
+use test_output::print_number;
+use test_output::print_text;
 ghost use mathlib.Core.Path.{_≡_};
 ghost use Prim.Native.Nat.{_<_};
 ghost use Rattle.standard.specs.Hash.{hash};
 ghost use Rattle.standard.specs.Sha256.{sha256};
 ghost use Rattle.sha256.specs.Values.{digestOf};
 
-fn wide(b: u8) -> u64 {
-    b as u64
-}
-
-fn print_bytes(bytes: [u8; 32]) {
-    for i in 0..32 {
-        io::print_hex(STDOUT_FILENO, wide(bytes[i]), 2);
-    }
-}
-
 fn print_line(name: &[u8], size: usize, d: Digest) {
-    io::write_all(STDOUT_FILENO, name);
-    io::write_all(STDOUT_FILENO, b" ");
-    io::print_decimal(STDOUT_FILENO, size as u64);
-    io::write_all(STDOUT_FILENO, b" ");
-    io::print_decimal(STDOUT_FILENO, d.blocks);
-    io::write_all(STDOUT_FILENO, b" ");
+    print_text(name);
+    print_number(size as u64);
+    print_number(d.blocks);
+    print_text(b" ");
     let bytes = d.bytes;
     print_bytes(bytes);
-    io::write_all(STDOUT_FILENO, b"\n");
+    print_text(b"\n");
 }
 
 // The hash of s, fed in pieces of `size` bytes.

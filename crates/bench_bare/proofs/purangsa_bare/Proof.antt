@@ -1,4 +1,4 @@
--- The first i blocks at each i. Assumes nothing.
+-- At each i the words are those after the first i blocks. Assumes nothing.
 use Prim.Native.Nat.{ℕ, _+_, _-_, _*_, _/_, _≤_}
 use mathlib.Core.Path.{_≡_, sym, ap, ap₂, _∙_}
 use mathlib.Core.List.{List}
@@ -7,8 +7,8 @@ use lib.ListN.{length, take, drop}
 use Rattle.standard.specs.Hash.{compressed, absorbed, blockAt}
 use Rattle.standard.specs.Sha256.{sha256}
 use Rattle.standard.proofs.Hash.{absorbed-more}
-use Rattle.sha256.specs.Values.{eightOf}
-use Rattle.sha256.proofs.Stores.{length-part}
+use Rattle.compression.specs.Values.{eightOf}
+use Rattle.compression.proofs.Stores.{length-part}
 use borrow.Author.Needs.{needs}
 use Rattle.bench_bare.proofs.purangsa_bare.Statement.{statement}
 use Rattle.bench_bare.proofs.purangsa_bare.Tie as tie
@@ -31,41 +31,33 @@ loop-holds c = (search needs, c .initial .ensures)
 
 compress-requires : tie.Need-compress-requires Inv-loop μ-loop
 compress-requires c κs =
-    let i = c .before .before .loop .i in
-    let text = c .before .before .before .before .before .args .text .now in
+    let head = c .before .before in
+    let i = head .loop .i in
+    let text = head .before .before .before .args .text .now in
     let size : 64 * i + 64 - 64 * i ≡ 64 = omega arith in
     rw size (length-part text (64 * i) 64 (omega arith))
 
 loop-again : tie.Need-loop-again Inv-loop μ-loop
 loop-again c =
-    let l = c .before .before .before .loop in
-    let text = c .before .before .before .before .before .before .args .text .now in (
+    let head = c .before .before .before in
+    let l = head .loop in
+    let text = head .before .before .before .args .text .now in (
       search needs,
-      c .compress .ensures ∙ ap₂ (compressed sha256) (l .inv .1) (part text (l .i)) ∙ sym (absorbed-more sha256 text (l .i) (sha256 .initial)),
+      c .compress .ensures ∙
+          ap₂ (compressed sha256) (l .inv .1) (part text (l .i)) ∙
+          sym (absorbed-more sha256 text (l .i) (sha256 .initial)),
     )
 
 returns : tie.Need-returns Inv-loop μ-loop
 returns c =
-    let l = c .before .loop in
-    let text = c .before .before .before .before .args .text .now in
+    let head = c .before in
+    let l = head .loop in
+    let text = head .before .before .before .args .text .now in
     let all : l .i ≡ length text / 64 = omega arith in
     ap (λ s. s .a) (l .inv .1 ∙ ap (λ n. absorbed sha256 text n (sha256 .initial) .value) all)
 
 pub purangsa-bare-spec : {M : Type 1} → statement M
 purangsa-bare-spec =
     tie.close
-    (tie.spec
-    Inv-loop
-    μ-loop
-    (λ c κs. search needs)
-    loop-holds
-    (λ c. search needs)
-    (λ c. search needs)
-    (λ c. search needs)
-    (λ c. search needs)
-    (λ c. search needs)
-    compress-requires
-    (λ c. search needs)
-    (λ c. search needs)
-    loop-again
-    returns)
+    (tie.spec Inv-loop μ-loop (λ c κs. search needs) loop-holds (λ c. search needs) (λ c. search needs) (λ c. search needs)
+    (λ c. search needs) (λ c. search needs) compress-requires (λ c. search needs) (λ c. search needs) loop-again returns)

@@ -5,7 +5,7 @@ use native.Mathlib.Omega.{arith}
 use lib.ListN.{set, replicate}
 use Rattle.standard.specs.Hash.{compressed, digest}
 use Rattle.standard.specs.Sha256.{sha256}
-use Rattle.sha256.specs.Values.{eightOf}
+use Rattle.compression.specs.Values.{eightOf}
 use Rattle.drbg_hmac.specs.Keys.{costing}
 use Rattle.copies.proofs.Pasted.{pasted}
 use Rattle.drbg_hmac.proofs.Short.{hash-of-led, filling, ending}

@@ -5,7 +5,7 @@ use mathlib.Core.List.{append-nil}
 use native.Mathlib.Omega.{arith}
 use lib.ListN.{length, take, drop, replicate}
 use lib.Seq.{paste}
-use Rattle.sha256.proofs.Stores.{length-part}
+use Rattle.compression.proofs.Stores.{length-part}
 use Rattle.copies.proofs.Pasted.{pasted}
 use borrow.Author.Needs.{needs}
 use Rattle.drbg_hash.proofs.sums.eight_at.Statement.{statement}

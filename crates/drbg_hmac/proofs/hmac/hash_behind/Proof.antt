@@ -3,7 +3,7 @@ use mathlib.Core.Path.{_≡_, sym, ap, ap₂, _∙_}
 use native.Mathlib.Omega.{arith}
 use Rattle.standard.specs.Hash.{compressed, digest}
 use Rattle.standard.specs.Sha256.{sha256}
-use Rattle.sha256.specs.Values.{eightOf}
+use Rattle.compression.specs.Values.{eightOf}
 use Rattle.drbg_hmac.specs.Keys.{costing}
 use Rattle.drbg_hmac.proofs.Short.{hash-of-two}
 use borrow.Author.Needs.{needs}

@@ -7,7 +7,7 @@ use lib.Bits.{bitXor}
 use lib.ListN.{length, getD, take, drop, take-append-drop}
 use lib.Seq.{drop-set-lt}
 use Rattle.standard.specs.Hmac.{xored}
-use Rattle.sha256.proofs.Stores.{take-more-set}
+use Rattle.compression.proofs.Stores.{take-more-set}
 use Rattle.drbg_hmac.proofs.Pads.{xored-more, xored-filled}
 use borrow.Author.Needs.{needs}
 use Rattle.drbg_hmac.proofs.hmac.pad_block.Statement.{statement}

@@ -1,4 +1,4 @@
--- The zeros up to i at each i. Assumes nothing.
+-- At each i zeros stand from the mark to i. Assumes nothing.
 use Prim.Native.Nat.{_+_, _-_, _≤_}
 use mathlib.Core.Path.{_≡_, sym, ap, _∙_}
 use mathlib.Core.List.{[], _∷_, _++_, append-nil, append-assoc}
@@ -6,7 +6,8 @@ use native.Mathlib.Nat.{sub-self, le-of-eq}
 use native.Mathlib.Omega.{arith}
 use lib.ListN.{length, take, set, replicate}
 use lib.Seq.{take-all}
-use Rattle.sha256.proofs.Stores.{take-more-set, zeros-more}
+use Rattle.compression.proofs.Stores.{take-more-set}
+use Rattle.sha256.proofs.Scratch.{zeros-more}
 use borrow.Author.Needs.{needs}
 use Rattle.sha256.proofs.padding.marked.Statement.{statement}
 use Rattle.sha256.proofs.padding.marked.Tie as tie
@@ -43,4 +44,7 @@ returns c =
     append-assoc (take (a .fill) (a .old)) (128 ∷ []) (replicate (63 - a .fill) 0)
 
 pub marked-spec : {M : Type 1} → statement M
-marked-spec = tie.close (tie.spec Inv-loop μ-loop (λ c. search needs) (λ c. search needs) loop-holds (λ c. search needs) (λ c. search needs) (λ c. search needs) loop-again returns)
+marked-spec =
+    tie.close
+    (tie.spec Inv-loop μ-loop (λ c. search needs) (λ c. search needs) loop-holds (λ c. search needs) (λ c. search needs)
+    (λ c. search needs) loop-again returns)

@@ -1,13 +1,12 @@
--- From the last byte on. Assumes nothing.
+-- At each i the bytes from i on, behind those of the rest, are those of the length. Assumes nothing.
 use Prim.Native.Nat.{_%_, _-_, _≤_}
-use mathlib.Core.Path.{_≡_, sym, ap, ap₂, _∙_}
+use mathlib.Core.Path.{_≡_, sym, ap₂, _∙_}
 use mathlib.Core.List.{_++_, append-nil}
-use native.Mathlib.Nat.{le-of-eq}
 use native.Mathlib.Omega.{arith}
 use lib.ListN.{length, take, drop, drop-of-length-le, take-append-drop}
 use lib.Seq.{take-set-le}
 use Rattle.standard.specs.Strings.{bytesOf}
-use Rattle.sha256.proofs.Stores.{number-more}
+use Rattle.sha256.proofs.Scratch.{number-more}
 use borrow.Author.Needs.{needs}
 use Rattle.sha256.proofs.padding.with_length.Statement.{statement}
 use Rattle.sha256.proofs.padding.with_length.Tie as tie
@@ -42,4 +41,7 @@ returns c =
     sym (take-append-drop 56 (l .block)) ∙ ap₂ (λ p q. p ++ q) (l .inv .3) (rw all at (l .inv .4))
 
 pub with-length-spec : {M : Type 1} → statement M
-with-length-spec = tie.close (tie.spec Inv-loop μ-loop loop-holds (λ c. search needs) (λ c. search needs) (λ c. search needs) (λ c. search needs) loop-again returns)
+with-length-spec =
+    tie.close
+    (tie.spec Inv-loop μ-loop loop-holds (λ c. search needs) (λ c. search needs) (λ c. search needs) (λ c. search needs) loop-again
+    returns)

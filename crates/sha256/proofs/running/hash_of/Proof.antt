@@ -7,7 +7,10 @@ use Rattle.sha256.proofs.running.hash_of.Tie as tie
 
 returns : tie.Need-returns
 returns c =
-    c .digest .ensures _ (read-padded (c .before .before .update .ensures .after [] (c .before .before .before .new .ensures)) (c .before .finish .ensures))
+    let finished = c .before in
+    let updated = finished .before in
+    let read = updated .update .ensures .after [] (updated .before .new .ensures) in
+    c .digest .ensures _ (read-padded read (finished .finish .ensures))
 
 pub hash-of-spec : {M : Type 1} → statement M
 hash-of-spec = tie.close (tie.spec (λ c κs. search needs) (λ c κs. search needs) (λ c κs. search needs) (λ c κs. search needs) returns)

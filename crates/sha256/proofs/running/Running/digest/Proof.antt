@@ -1,4 +1,4 @@
--- By what a hash that has read a padded message holds. Assumes nothing.
+-- A hash that has read a padded message holds the words and the count of its hash. Assumes nothing.
 use mathlib.Core.Path.{sym, ap, _∙_}
 use Rattle.sha256.proofs.Feeding.{hash-of-read}
 use borrow.Author.Needs.{needs}

@@ -1,4 +1,4 @@
--- Nothing read. Assumes nothing.
+-- No byte is read, no block absorbed: all by computing. Assumes nothing.
 use mathlib.Core.Path.{refl}
 use lib.Dec.{lit<}
 use Rattle.standard.specs.Hash.{absorbed}

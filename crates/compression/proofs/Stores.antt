@@ -1,0 +1,46 @@
+-- Arrays that stores fill from the front, and a part of a string. Assumes nothing.
+use mathlib.Core.Path.{_≡_, ap, _∙_}
+use mathlib.Core.List.{List, [], _∷_, _++_, append-assoc}
+use Prim.Native.Nat.{ℕ, _+_, _-_, _/_, _%_, _≤_, _<_}
+use native.Mathlib.Numerals.{add-one}
+use native.Mathlib.Omega.{arith}
+use lib.ListN.{length, getD, take, drop, set, length-set, length-drop}
+use lib.Seq.{length-take-le, take-suc-set, take-suc}
+use Rattle.standard.specs.Strings.{bytesOf}
+
+-- one more behind the first n
+pub take-more-set : (l : List ℕ) (n v : ℕ) → n < length l → take (n + 1) (set l n v) ≡ take n l ++ (v ∷ [])
+take-more-set l n v h = rw add-one (take-suc-set l n v h)
+
+behind : (l p : List ℕ) (n v : ℕ) → n < length l → take n l ≡ p → take (n + 1) (set l n v) ≡ p ++ (v ∷ [])
+behind l p n v h so-far = take-more-set l n v h ∙ ap (λ q. q ++ (v ∷ [])) so-far
+
+pub take-more : (l : List ℕ) (n : ℕ) → n < length l → take (n + 1) l ≡ take n l ++ (getD l n 0 ∷ [])
+take-more l n h = rw add-one (take-suc l n 0 h)
+
+-- a word's four bytes behind the first n
+pub word-stored : (l : List ℕ) (n x : ℕ) → n + 4 ≤ length l
+    → take (n + 4) (set (set (set (set l n (x / 16777216 % 256)) (n + 1) (x / 65536 % 256)) (n + 2) (x / 256 % 256)) (n + 3) (x % 256))
+    ≡ take n l ++ bytesOf 4 x
+unfolding bytesOf
+word-stored l n x h =
+    let a = x / 16777216 % 256 in
+    let b = x / 65536 % 256 in
+    let c = x / 256 % 256 in
+    let d = x % 256 in
+    let e₂ : n + 2 ≡ n + 1 + 1 = omega arith in
+    let e₃ : n + 3 ≡ n + 1 + 1 + 1 = omega arith in
+    let e₄ : n + 4 ≡ n + 1 + 1 + 1 + 1 = omega arith in
+    let h₁ : n + 1 < length (set l n a) = simp length-set (omega arith) in
+    let h₂ : n + 1 + 1 < length (set (set l n a) (n + 1) b) = simp length-set (omega arith) in
+    let h₃ : n + 1 + 1 + 1 < length (set (set (set l n a) (n + 1) b) (n + 1 + 1) c) = simp length-set (omega arith) in
+    let first : x / 16777216 ≡ x / 256 / 256 / 256 = omega arith in
+    let second : x / 65536 ≡ x / 256 / 256 = omega arith in
+    rw (e₄, e₃, e₂)
+    (behind _ _ (n + 1 + 1 + 1) d h₃ (behind _ _ (n + 1 + 1) c h₂ (behind _ _ (n + 1) b h₁ (take-more-set l n a (omega arith)))) ∙
+    simp (append-assoc, first, second))
+
+pub length-part : (s : List ℕ) (at n : ℕ) → at + n ≤ length s → length (take n (drop at s)) ≡ n
+length-part s at n h =
+    let inside : n ≤ length (drop at s) = simp length-drop (omega arith) in
+    length-take-le n (drop at s) inside
