@@ -13,13 +13,14 @@ use table::calls;
 ghost use mathlib.Core.Path.{_≡_};
 ghost use mathlib.Core.List.{[], _++_};
 ghost use Prim.Native.Nat.{_+_, _≤_, _<_};
-ghost use lib.ListN.{length, take};
+ghost use lib.ListN.{length, take, replicate};
 ghost use Rattle.book.specs.Strings.{bytesOf};
 ghost use Rattle.book.specs.Lines.{line};
 ghost use Rattle.book.specs.Records.{draws, draws-fresh, Fits, meaningOf};
 ghost use Rattle.book.specs.Writing.{Appends};
 ghost use Rattle.book.proofs.Records.{PartsIn};
-ghost use Rattle.runner.specs.Run.{Ran, left};
+ghost use Rattle.slots.specs.Sizes.{tableSize};
+ghost use Rattle.runner.specs.Run.{Ran, left, printedOf};
 
 // Each of these appends its record's line at a place of the text, and says where it ends.
 fn run_draw(
@@ -208,24 +209,37 @@ fn run_some(table: &mut [u8], book: &[u8], from: usize, out: &mut [u8], text: &m
     Piece { end, next: at }
 }
 
-fn run_book(book: &[u8]) {
+// The first lines of a book, from a fresh table: those of its first records, or `book 0` where it is above 65,536 bytes.
+fn run_first(table: &mut [u8], book: &[u8], out: &mut [u8], text: &mut [u8]) -> Piece
+    requires { ⌜ now table ≡ replicate tableSize 0 ⌝ }
+    requires { ⌜ (length (now out) ≡ 65536) × (length (now text) ≡ 135252) ⌝ }
+    ensures prints { λ r. ⌜ printedOf (now (book .entry))
+        ≡ take (r .end) (now (text .exit)) ++ left (now (table .exit)) (now (book .entry)) (r .next) ⌝ }
+    ensures within { λ r. ⌜ r .end ≤ 135252 ⌝ }
+{
+    if 65536 < book.len() {
+        let end = line::bad_line(text, 0, 0);
+        return Piece {
+            end,
+            next: book.len(),
+        };
+    }
+    run_some(table, book, 0, out, text)
+}
+
+// The whole book, of any size. What is written here is promised by run_first and run_some; that it is written no contract can say.
+pub fn run(book: &[u8]) {
     let mut table = [0u8; sizes::TABLE];
     let mut out = [0u8; 65536];
     let mut text = [0u8; 135252];
-    let mut at = 0;
-    while at < book.len() {
-        let ran = run_some(&mut table, book, at, &mut out, &mut text);
-        let end = ran.end;
+    let mut piece = run_first(&mut table, book, &mut out, &mut text);
+    loop {
+        let end = piece.end;
         io::write_all(STDOUT_FILENO, &text[..end]);
-        at = ran.next;
+        let at = piece.next;
+        if book.len() <= at {
+            return;
+        }
+        piece = run_some(&mut table, book, at, &mut out, &mut text);
     }
-}
-
-// The whole book, of any size: above 65,536 bytes nothing of it is run.
-pub fn run(book: &[u8]) {
-    if 65536 < book.len() {
-        io::write_all(STDOUT_FILENO, b"book 0\n");
-        return;
-    }
-    run_book(book);
 }

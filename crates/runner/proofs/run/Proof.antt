@@ -1,0 +1,68 @@
+-- Each piece goes on with the table and at the place that the one before it left, and gets further. Assumes nothing.
+use Prim.Native.Nat.{ℕ, _-_, _≤_}
+use mathlib.Core.Path.{_≡_, refl, sym, subst, _∙_}
+use native.Mathlib.Omega.{arith}
+use lib.ListN.{length, replicate, length-replicate}
+use lib.Seq.{length-take-le}
+use Rattle.slots.specs.Sizes.{tableSize}
+use Rattle.runner.proofs.Runs.{HandedOn, handed-first, handed-next}
+use borrow.Author.Needs.{needs}
+use Rattle.runner.proofs.run.Statement.{statement}
+use Rattle.runner.proofs.run.Tie as tie
+
+abbrev Inv-loop : tie.InvT-loop
+Inv-loop book table₀ out₀ text₀ piece₀ table out text piece =
+    ((length table ≡ tableSize) × (length out ≡ 65536) × (length text ≡ 135252)) ×
+    (piece .end ≤ 135252) ×
+    HandedOn book table text (piece .end) (piece .next)
+
+abbrev μ-loop : tie.MeasureT-loop
+μ-loop book table₀ out₀ text₀ piece₀ table out text piece = length book - piece .next
+
+run-first-requires : tie.Need-run-first-requires Inv-loop μ-loop
+run-first-requires c κs =
+    let zeros : replicate tableSize 0 ≡ replicate {A = ℕ} tableSize 0 = refl in
+    (zeros, (length-replicate {A = ℕ} 65536 0, length-replicate {A = ℕ} 135252 0))
+
+loop-holds : tie.Need-loop-holds Inv-loop μ-loop
+loop-holds c =
+    let first = c .before .before .before .run-first in
+    let kept = first .kept in (
+      (
+        kept .0 ∙ length-replicate {A = ℕ} tableSize 0,
+        kept .1 .1 .0 ∙ length-replicate {A = ℕ} 65536 0,
+        kept .1 .1 .1 .0 ∙ length-replicate {A = ℕ} 135252 0,
+      ),
+      first .ensures .1,
+      handed-first (first .ensures .0),
+    )
+
+-- the lines are inside the text
+inside : (c : tie.At-loop Inv-loop μ-loop) → c .loop .piece .end ≤ length (c .loop .text)
+inside c = subst (λ n. c .loop .piece .end ≤ n) (sym (c .loop .inv .0 .2)) (c .loop .inv .1)
+
+slice-aggregate-write-all : tie.Need-slice-aggregate-write-all Inv-loop μ-loop
+slice-aggregate-write-all c = sym (length-take-le _ _ (inside (c .before)))
+
+loop-less : tie.Need-loop-less Inv-loop μ-loop
+loop-less c =
+    let more = c .before .before .before .before .before .before .before .if1 .left in
+    omega (arith, c .before .before .before .run-some .ensures .1 .1 (omega (arith, more)), more)
+
+loop-again : tie.Need-loop-again Inv-loop μ-loop
+loop-again c =
+    let some = c .before .before .before .run-some in
+    let before = c .before .before .before .before .before .before .before .before .before .before .loop .inv in
+    let kept = some .kept in (
+      (kept .0 ∙ before .0 .0, kept .1 .1 .1 .0 ∙ before .0 .1, kept .1 .1 .1 .1 .0 ∙ before .0 .2),
+      some .ensures .1 .0,
+      handed-next (before .2) (some .ensures .0),
+    )
+
+pub run-spec : {M : Type 1} → statement M
+run-spec =
+    tie.close
+    (tie.spec
+    Inv-loop μ-loop (λ c. search needs) (λ c. search needs) (λ c. search needs) run-first-requires loop-holds inside
+    slice-aggregate-write-all (λ c κs. search needs) (λ c. search needs) (λ c. search needs) (λ c. search needs) (λ c. search needs)
+    (λ c κs. search needs) loop-less loop-again)
