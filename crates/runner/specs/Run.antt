@@ -20,9 +20,9 @@ abbrev pub callOf : Meaning → Call
 callOf (records.opens mechanism strength interval fresh entropy nonce personalization) =
     opens mechanism strength interval (eqb fresh 1) entropy nonce personalization
 callOf (records.reseeds handle entropy additional) = reseeds handle entropy additional
-callOf (records.draws handle strength length additional) = draws handle strength (replicate length 0) additional
-callOf (records.draws-fresh handle strength length entropy additional) =
-    freshDraws handle strength (replicate length 0) entropy additional
+callOf (records.draws handle strength request additional) = draws handle strength (replicate request 0) additional
+callOf (records.freshDraws handle strength request entropy additional) =
+    freshDraws handle strength (replicate request 0) entropy additional
 callOf (records.closes handle) = closes handle
 callOf (records.inquires handle) = inquires handle
 

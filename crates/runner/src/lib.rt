@@ -16,9 +16,8 @@ ghost use Prim.Native.Nat.{_+_, _≤_, _<_};
 ghost use lib.ListN.{length, take, replicate};
 ghost use Rattle.book.specs.Strings.{bytesOf};
 ghost use Rattle.book.specs.Lines.{line};
-ghost use Rattle.book.specs.Records.{draws, draws-fresh, Fits, meaningOf};
+ghost use Rattle.book.specs.Records.{draws, freshDraws, Fits, PartsIn, meaningOf};
 ghost use Rattle.book.specs.Writing.{Appends};
-ghost use Rattle.book.proofs.Records.{PartsIn};
 ghost use Rattle.slots.specs.Sizes.{tableSize};
 ghost use Rattle.runner.specs.Run.{Ran, left, printedOf};
 
@@ -65,7 +64,7 @@ fn run_fresh_draw(
     requires { ⌜ (entropy .start + entropy .length ≤ length (now book)) × (additional .start + additional .length ≤ length (now book)) × (request ≤ 65536) ⌝ }
     requires { ⌜ (length (now out) ≡ 65536) × (at + 131156 ≤ length (now text)) ⌝ }
     ensures { λ end. ⌜ Ran (now (table .entry))
-        (draws-fresh handle strength request (bytesOf (now (book .entry)) entropy) (bytesOf (now (book .entry)) additional))
+        (freshDraws handle strength request (bytesOf (now (book .entry)) entropy) (bytesOf (now (book .entry)) additional))
         (now (text .entry)) at end (now (text .exit)) (now (table .exit)) ⌝ }
 {
     let n = request as usize;
@@ -137,7 +136,7 @@ fn run_record(
         Record::Draw {
             handle,
             strength,
-            length,
+            request,
             additional,
         } => {
             run_draw(
@@ -145,7 +144,7 @@ fn run_record(
                 book,
                 handle,
                 strength,
-                length,
+                request,
                 additional,
                 out,
                 text,
@@ -155,7 +154,7 @@ fn run_record(
         Record::FreshDraw {
             handle,
             strength,
-            length,
+            request,
             entropy,
             additional,
         } => {
@@ -164,7 +163,7 @@ fn run_record(
                 book,
                 handle,
                 strength,
-                length,
+                request,
                 entropy,
                 additional,
                 out,

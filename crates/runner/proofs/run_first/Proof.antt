@@ -2,7 +2,7 @@
 use Prim.Native.Nat.{_≤_}
 use mathlib.Core.Path.{refl, subst, _∙_}
 use native.Mathlib.Omega.{arith}
-use Rattle.book.proofs.Standing.{Bytes}
+use Rattle.standard.specs.Strings.{Bytes}
 use Rattle.runner.proofs.Runs.{ends-inside, first-long, first-short}
 use borrow.Author.Needs.{needs}
 use Rattle.runner.proofs.run_first.Statement.{statement}
