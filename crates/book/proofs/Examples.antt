@@ -26,8 +26,8 @@ example =
     0x05 ∷ 0x10 ∷
     0x05 ∷ 0x10 ∷ []))))
 
-part : (start length : ℕ) → Part
-part start length = record { start = start; length = length }
+part : (start size : ℕ) → Part
+part start size = record { start = start; length = size }
 
 example-read : contentsOf example
     ≡ more (Open 1 128 1 0 (part 7 16) (part 24 8) (part 33 0))

@@ -10,17 +10,18 @@ use lib.Dec.{eqb, lit<}
 use lib.ListN.{length, length-append}
 use Rattle.book.specs.Reading.{Read, Reader, found, onFound, refused, Stands}
 use Rattle.book.specs.Numbers.{numberAt, numberUpTo, numberBytes}
-use Rattle.book.specs.Strings.{stringAt, bytesOf, stringBytes}
+use Rattle.book.specs.Strings.{stringAt, bytesOf, In, stringBytes}
 use Rattle.book.specs.Records.{openAt, reseedAt, drawAt, freshDrawAt, closeAt, inquireAt, fieldsAt, recordAt}
-use Rattle.book.specs.Records.{Meaning, opens, reseeds, draws, draws-fresh, closes, inquires, meaningOf}
-use Rattle.book.specs.Records.{kindOf, fieldBytes, joined, recordBytes, Word, Short, Fits}
+use Rattle.book.specs.Records.{Meaning, opens, reseeds, draws, freshDraws, closes, inquires, meaningOf}
+use Rattle.book.specs.Records.{kindOf, fieldBytes, joined, recordBytes, Word, Short, Fits, PartsIn, ReadAs}
 use Rattle.book.specs.declared.string.Part.{Part}
 use Rattle.book.specs.declared.record.Record.{Record}
 use Rattle.book.specs.declared.record.Record.the-variants.{Open, Reseed, Draw, FreshDraw, Close, Inquire}
 use Rattle.book.proofs.Reading.{All, all-found, all-bad, all-then, Back, back-none, back-then}
 use Rattle.book.proofs.Numbers.{number-written, number-only, upTo-read, upTo-number, length-number}
 use Rattle.book.proofs.Strings.{string-inside, string-written, string-only}
-use Rattle.book.proofs.Standing.{Bytes, stands-none, stands-then, stands-inside, stands-between}
+use Rattle.standard.specs.Strings.{Bytes}
+use Rattle.book.proofs.Standing.{stands-none, stands-then, stands-inside, stands-between}
 
 -- ---- what is written is read back
 
@@ -65,19 +66,19 @@ module _ (book : List ℕ) where
       string-then entropy (fits .1) (λ entropy′ entropy-is.
       string-then additional (fits .2) (λ additional′ additional-is.
       back-none book (Reseed handle′ entropy′ additional′) cc)))
-  fields-written (draws handle strength length additional) fits =
+  fields-written (draws handle strength request additional) fits =
       number-then handle (fits .0) (λ handle′ handle-is.
       number-then strength (fits .1) (λ strength′ strength-is.
-      upTo-then 65536 length (fits .2) (omega (arith, (fits .2))) (λ length′ length-is.
+      upTo-then 65536 request (fits .2) (omega (arith, (fits .2))) (λ request′ request-is.
       string-then additional (fits .3) (λ additional′ additional-is.
-      back-none book (Draw handle′ strength′ length′ additional′) cc))))
-  fields-written (draws-fresh handle strength length entropy additional) fits =
+      back-none book (Draw handle′ strength′ request′ additional′) cc))))
+  fields-written (freshDraws handle strength request entropy additional) fits =
       number-then handle (fits .0) (λ handle′ handle-is.
       number-then strength (fits .1) (λ strength′ strength-is.
-      upTo-then 65536 length (fits .2) (omega (arith, (fits .2))) (λ length′ length-is.
+      upTo-then 65536 request (fits .2) (omega (arith, (fits .2))) (λ request′ request-is.
       string-then entropy (fits .3) (λ entropy′ entropy-is.
       string-then additional (fits .4) (λ additional′ additional-is.
-      back-none book (FreshDraw handle′ strength′ length′ entropy′ additional′) cc)))))
+      back-none book (FreshDraw handle′ strength′ request′ entropy′ additional′) cc)))))
   fields-written (closes handle) fits =
       number-then handle fits (λ handle′ handle-is.
       back-none book (Close handle′) cc)
@@ -96,31 +97,12 @@ module _ (book : List ℕ) where
       kind-word : (m : Meaning) → Word (kindOf m)
       kind-word (opens mechanism strength interval fresh entropy nonce personalization) = lit< tt
       kind-word (reseeds handle entropy additional) = lit< tt
-      kind-word (draws handle strength length additional) = lit< tt
-      kind-word (draws-fresh handle strength length entropy additional) = lit< tt
+      kind-word (draws handle strength request additional) = lit< tt
+      kind-word (freshDraws handle strength request entropy additional) = lit< tt
       kind-word (closes handle) = lit< tt
       kind-word (inquires handle) = lit< tt
 
 -- ---- and nothing else is read
-
--- a string inside the book
-abbrev pub In : List ℕ → Part → Type 0
-In book p = p .start + p .length ≤ length book
-
-abbrev pub PartsIn : List ℕ → Record → Type 0
-PartsIn book (Open mechanism strength interval fresh entropy nonce personalization) =
-    In book entropy × In book nonce × In book personalization
-PartsIn book (Reseed handle entropy additional) = In book entropy × In book additional
-PartsIn book (Draw handle strength length additional) = In book additional
-PartsIn book (FreshDraw handle strength length entropy additional) = In book entropy × In book additional
-PartsIn book (Close handle) = Unit {0}
-PartsIn book (Inquire handle) = Unit {0}
-
--- r stands from a to b, within the limits, its strings inside the book
-pub record ReadAs (book : List ℕ) (a b : ℕ) (r : Record) : Type 0 where
-  pub fits : Fits (meaningOf book r)
-  pub parts : PartsIn book r
-  pub stands : Stands book a b (recordBytes (meaningOf book r))
 
 module _ (book : List ℕ) (bytes : Bytes book) where
   -- what is known of a field that was read holds for the reading of the others
@@ -208,17 +190,17 @@ module _ (book : List ℕ) (bytes : Bytes book) where
   draw-only a =
       after-number a (λ handle past-handle handle-is.
       after-number past-handle (λ strength past-strength strength-is.
-      after-upTo past-strength 65536 (λ length past-length length-is.
-      after-string past-length (λ additional past-additional additional-is.
+      after-upTo past-strength 65536 (λ request past-request request-is.
+      after-string past-request (λ additional past-additional additional-is.
       all-found _ _ _
       (record {
         kind-is = refl;
-        fits = (handle-is .0, strength-is .0, length-is .0, additional-is .0);
+        fits = (handle-is .0, strength-is .0, request-is .0, additional-is .0);
         parts = additional-is .1;
         stands =
             stands-then book (handle-is .1)
             (stands-then book (strength-is .1)
-            (stands-then book (length-is .1)
+            (stands-then book (request-is .1)
             (stands-then book (additional-is .2) (stands-none book past-additional))));
       })))))
 
@@ -227,18 +209,18 @@ module _ (book : List ℕ) (bytes : Bytes book) where
   freshDraw-only a =
       after-number a (λ handle past-handle handle-is.
       after-number past-handle (λ strength past-strength strength-is.
-      after-upTo past-strength 65536 (λ length past-length length-is.
-      after-string past-length (λ entropy past-entropy entropy-is.
+      after-upTo past-strength 65536 (λ request past-request request-is.
+      after-string past-request (λ entropy past-entropy entropy-is.
       after-string past-entropy (λ additional past-additional additional-is.
       all-found _ _ _
       (record {
         kind-is = refl;
-        fits = (handle-is .0, strength-is .0, length-is .0, entropy-is .0, additional-is .0);
+        fits = (handle-is .0, strength-is .0, request-is .0, entropy-is .0, additional-is .0);
         parts = (entropy-is .1, additional-is .1);
         stands =
             stands-then book (handle-is .1)
             (stands-then book (strength-is .1)
-            (stands-then book (length-is .1)
+            (stands-then book (request-is .1)
             (stands-then book (entropy-is .2)
             (stands-then book (additional-is .2) (stands-none book past-additional)))));
       }))))))

@@ -5,9 +5,9 @@ use mathlib.Core.Bool.{cond}
 use mathlib.Core.List.{List, [], _∷_, _++_}
 use lib.ListN.{length}
 use lib.Dec.{eqb}
-use Rattle.book.specs.Reading.{Reader, _>>=_, return, refused}
+use Rattle.book.specs.Reading.{Reader, _>>=_, return, refused, Stands}
 use Rattle.book.specs.Numbers.{numberAt, numberUpTo, numberBytes}
-use Rattle.book.specs.Strings.{stringAt, bytesOf, stringBytes}
+use Rattle.book.specs.Strings.{stringAt, bytesOf, In, stringBytes}
 use Rattle.book.specs.declared.record.Record.{Record}
 use Rattle.book.specs.declared.record.Record.the-variants.{Open, Reseed, Draw, FreshDraw, Close, Inquire}
 
@@ -36,19 +36,19 @@ unfoldable pub drawAt : Reader Record
 drawAt = do
   handle ← numberAt
   strength ← numberAt
-  length ← numberUpTo 65536
+  request ← numberUpTo 65536
   additional ← stringAt
-  return (Draw handle strength length additional)
+  return (Draw handle strength request additional)
 
 -- 4, fresh draw
 unfoldable pub freshDrawAt : Reader Record
 freshDrawAt = do
   handle ← numberAt
   strength ← numberAt
-  length ← numberUpTo 65536
+  request ← numberUpTo 65536
   entropy ← stringAt
   additional ← stringAt
-  return (FreshDraw handle strength length entropy additional)
+  return (FreshDraw handle strength request entropy additional)
 
 -- 5, close
 unfoldable pub closeAt : Reader Record
@@ -80,8 +80,8 @@ recordAt = do
 pub data Meaning : Type 0 where
   opens : (mechanism strength interval fresh : ℕ) (entropy nonce personalization : List ℕ) → Meaning
   reseeds : (handle : ℕ) (entropy additional : List ℕ) → Meaning
-  draws : (handle strength length : ℕ) (additional : List ℕ) → Meaning
-  draws-fresh : (handle strength length : ℕ) (entropy additional : List ℕ) → Meaning
+  draws : (handle strength request : ℕ) (additional : List ℕ) → Meaning
+  freshDraws : (handle strength request : ℕ) (entropy additional : List ℕ) → Meaning
   closes : (handle : ℕ) → Meaning
   inquires : (handle : ℕ) → Meaning
 
@@ -89,9 +89,9 @@ abbrev pub meaningOf : (book : List ℕ) → Record → Meaning
 meaningOf book (Open mechanism strength interval fresh entropy nonce personalization) =
     opens mechanism strength interval fresh (bytesOf book entropy) (bytesOf book nonce) (bytesOf book personalization)
 meaningOf book (Reseed handle entropy additional) = reseeds handle (bytesOf book entropy) (bytesOf book additional)
-meaningOf book (Draw handle strength length additional) = draws handle strength length (bytesOf book additional)
-meaningOf book (FreshDraw handle strength length entropy additional) =
-    draws-fresh handle strength length (bytesOf book entropy) (bytesOf book additional)
+meaningOf book (Draw handle strength request additional) = draws handle strength request (bytesOf book additional)
+meaningOf book (FreshDraw handle strength request entropy additional) =
+    freshDraws handle strength request (bytesOf book entropy) (bytesOf book additional)
 meaningOf book (Close handle) = closes handle
 meaningOf book (Inquire handle) = inquires handle
 
@@ -99,8 +99,8 @@ meaningOf book (Inquire handle) = inquires handle
 abbrev pub kindOf : Meaning → ℕ
 kindOf (opens mechanism strength interval fresh entropy nonce personalization) = 1
 kindOf (reseeds handle entropy additional) = 2
-kindOf (draws handle strength length additional) = 3
-kindOf (draws-fresh handle strength length entropy additional) = 4
+kindOf (draws handle strength request additional) = 3
+kindOf (freshDraws handle strength request entropy additional) = 4
 kindOf (closes handle) = 5
 kindOf (inquires handle) = 6
 
@@ -109,10 +109,10 @@ fieldBytes (opens mechanism strength interval fresh entropy nonce personalizatio
     numberBytes mechanism ∷ numberBytes strength ∷ numberBytes interval ∷ numberBytes fresh ∷
     stringBytes entropy ∷ stringBytes nonce ∷ stringBytes personalization ∷ []
 fieldBytes (reseeds handle entropy additional) = numberBytes handle ∷ stringBytes entropy ∷ stringBytes additional ∷ []
-fieldBytes (draws handle strength length additional) =
-    numberBytes handle ∷ numberBytes strength ∷ numberBytes length ∷ stringBytes additional ∷ []
-fieldBytes (draws-fresh handle strength length entropy additional) =
-    numberBytes handle ∷ numberBytes strength ∷ numberBytes length ∷ stringBytes entropy ∷ stringBytes additional ∷ []
+fieldBytes (draws handle strength request additional) =
+    numberBytes handle ∷ numberBytes strength ∷ numberBytes request ∷ stringBytes additional ∷ []
+fieldBytes (freshDraws handle strength request entropy additional) =
+    numberBytes handle ∷ numberBytes strength ∷ numberBytes request ∷ stringBytes entropy ∷ stringBytes additional ∷ []
 fieldBytes (closes handle) = numberBytes handle ∷ []
 fieldBytes (inquires handle) = numberBytes handle ∷ []
 
@@ -134,8 +134,25 @@ abbrev pub Fits : Meaning → Type 0
 Fits (opens mechanism strength interval fresh entropy nonce personalization) =
     Word mechanism × Word strength × Word interval × (fresh ≤ 1) × Short entropy × Short nonce × Short personalization
 Fits (reseeds handle entropy additional) = Word handle × Short entropy × Short additional
-Fits (draws handle strength length additional) = Word handle × Word strength × (length ≤ 65536) × Short additional
-Fits (draws-fresh handle strength length entropy additional) =
-    Word handle × Word strength × (length ≤ 65536) × Short entropy × Short additional
+Fits (draws handle strength request additional) = Word handle × Word strength × (request ≤ 65536) × Short additional
+Fits (freshDraws handle strength request entropy additional) =
+    Word handle × Word strength × (request ≤ 65536) × Short entropy × Short additional
 Fits (closes handle) = Word handle
 Fits (inquires handle) = Word handle
+
+-- its strings are inside the book
+abbrev pub PartsIn : (book : List ℕ) → Record → Type 0
+PartsIn book (Open mechanism strength interval fresh entropy nonce personalization) =
+    In book entropy × In book nonce × In book personalization
+PartsIn book (Reseed handle entropy additional) = In book entropy × In book additional
+PartsIn book (Draw handle strength request additional) = In book additional
+PartsIn book (FreshDraw handle strength request entropy additional) = In book entropy × In book additional
+PartsIn book (Close handle) = Unit {0}
+PartsIn book (Inquire handle) = Unit {0}
+
+-- a record that was read from place a to place b: it is within the limits, its strings are inside the book, and it stands there
+-- as it is written
+pub record ReadAs (book : List ℕ) (a b : ℕ) (r : Record) : Type 0 where
+  pub fits : Fits (meaningOf book r)
+  pub parts : PartsIn book r
+  pub stands : Stands book a b (recordBytes (meaningOf book r))

@@ -26,13 +26,13 @@ pub enum Record {
     Draw {
         handle: u64,
         strength: u64,
-        length: u64,
+        request: u64,
         additional: Part,
     },
     FreshDraw {
         handle: u64,
         strength: u64,
-        length: u64,
+        request: u64,
         entropy: Part,
         additional: Part,
     },
@@ -106,13 +106,13 @@ fn draw_fields(s: &[u8], from: Cursor) -> RecordAt
 {
     let handle = cursor::number(s, from);
     let strength = cursor::number(s, handle.next);
-    let length = cursor::number_up_to(s, strength.next, 65536);
-    let additional = cursor::string(s, length.next);
+    let request = cursor::number_up_to(s, strength.next, 65536);
+    let additional = cursor::string(s, request.next);
     let additional_part = additional.part;
     let r = Record::Draw {
         handle: handle.value,
         strength: strength.value,
-        length: length.value,
+        request: request.value,
         additional: additional_part,
     };
     ended(r, additional.next)
@@ -123,15 +123,15 @@ fn fresh_draw_fields(s: &[u8], from: Cursor) -> RecordAt
 {
     let handle = cursor::number(s, from);
     let strength = cursor::number(s, handle.next);
-    let length = cursor::number_up_to(s, strength.next, 65536);
-    let entropy = cursor::string(s, length.next);
+    let request = cursor::number_up_to(s, strength.next, 65536);
+    let entropy = cursor::string(s, request.next);
     let additional = cursor::string(s, entropy.next);
     let entropy_part = entropy.part;
     let additional_part = additional.part;
     let r = Record::FreshDraw {
         handle: handle.value,
         strength: strength.value,
-        length: length.value,
+        request: request.value,
         entropy: entropy_part,
         additional: additional_part,
     };
