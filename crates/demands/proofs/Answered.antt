@@ -6,10 +6,12 @@ use Prim.Native.Nat.{ℕ, zero, suc}
 use native.Mathlib.Omega.{arith}
 use lib.Dec.{eqb, eqb·suc-zero}
 use Rattle.slots.specs.Layout.{Table}
-use Rattle.table.specs.Reasons.{Reasons, _when_else_, firstOf, NoneHolds, First, this, later}
-use Rattle.table.specs.Answers.{Reply, decided, stepped, installed}
-use Rattle.table.specs.Calls.{openReasons, reseedReasons, drawReasons, freshDrawReasons, closeReasons, inquireReasons, refusal, service}
-use Rattle.table.proofs.Outcomes.{refusing, serving}
+use Rattle.reasons.specs.Reasons.{Reasons, _when_else_, firstOf, NoneHolds, First, this, later}
+use Rattle.table.specs.Answers.{Reply, stepped, installed}
+use Rattle.reasons.specs.Reasons.{decided}
+use Rattle.reasons.specs.Checks.{openReasons, reseedReasons, drawReasons, freshDrawReasons, closeReasons, inquireReasons}
+use Rattle.table.specs.Calls.{refusal, service}
+use Rattle.reasons.proofs.Decisions.{refusing, serving}
 use Rattle.demands.specs.Calls.{number, order}
 use Rattle.table.specs.Calls.{Call, opens, reseeds, draws, freshDraws, closes, inquires, reply, reasonsOf}
 use Rattle.demands.specs.Outcomes.{numbersOf}

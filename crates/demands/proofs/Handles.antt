@@ -17,15 +17,15 @@ use Rattle.slots.proofs.Slots.{slotAt-same, slotAt-other, lastSerial-withSlot, 
 use Rattle.slots.proofs.Soundness.{sound-has}
 use Rattle.slots.proofs.Handles.{named-is, names-used, names-serial, names-fresh, sound-named, slot-below, handle-serial}
 use Rattle.slots.proofs.Handles.{handle-parts}
-use Rattle.table.specs.Reasons.{Reasons, _when_else_, firstOf}
+use Rattle.reasons.specs.Reasons.{Reasons, _when_else_, firstOf}
 use Rattle.table.specs.Answers.{Reply}
-use Rattle.table.specs.Calls.{reseedReasons}
-use Rattle.table.specs.Calls.{drawReasons}
-use Rattle.table.specs.Calls.{freshDrawReasons}
-use Rattle.table.specs.Calls.{closeReasons}
-use Rattle.table.specs.Calls.{inquireReasons}
-use Rattle.table.proofs.Outcomes.{refused-by}
-use Rattle.table.proofs.Allowed.{may-close}
+use Rattle.reasons.specs.Checks.{reseedReasons}
+use Rattle.reasons.specs.Checks.{drawReasons}
+use Rattle.reasons.specs.Checks.{freshDrawReasons}
+use Rattle.reasons.specs.Checks.{closeReasons}
+use Rattle.reasons.specs.Checks.{inquireReasons}
+use Rattle.reasons.proofs.Decisions.{refused-by}
+use Rattle.reasons.proofs.Allowed.{may-close}
 use Rattle.demands.specs.Calls.{answer, number, after, afterAll}
 use Rattle.table.specs.Calls.{Call, closes, reasonsOf}
 use Rattle.demands.specs.Handles.{issuedBy, issued, Listed, here, there, Distinct, Rising}

@@ -19,8 +19,8 @@ use Rattle.slots.proofs.Flags.{either}
 use Rattle.slots.proofs.Slots.{slotAt-cases, lastSerial-withSlot, lastSerial-withLastSerial}
 use Rattle.slots.proofs.Soundness.{Used}
 use Rattle.table.specs.Answers.{Reply, stepped, installed}
-use Rattle.table.proofs.Outcomes.{refusing, serving}
-use Rattle.table.proofs.Allowed.{may-open}
+use Rattle.reasons.proofs.Decisions.{refusing, serving}
+use Rattle.reasons.proofs.Allowed.{may-open}
 use Rattle.slots.specs.Bytes.{tableBytes, tableOf}
 use Rattle.table.specs.OnBytes.{Done, toldRefused, done, inBytes}
 use Rattle.slots.specs.Machine.{Fits, Machine}

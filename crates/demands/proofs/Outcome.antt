@@ -5,17 +5,18 @@ use mathlib.Core.List.{[]}
 use Prim.Native.Nat.{ℕ}
 use lib.Dec.{eqb}
 use Rattle.slots.specs.Layout.{Table}
-use Rattle.table.specs.Reasons.{Reasons, firstOf}
-use Rattle.table.specs.Answers.{Reply, decided}
-use Rattle.table.specs.Calls.{openReasons}
-use Rattle.table.specs.Calls.{reseedReasons}
-use Rattle.table.specs.Calls.{drawReasons}
-use Rattle.table.specs.Calls.{freshDrawReasons}
-use Rattle.table.specs.Calls.{closeReasons}
-use Rattle.table.specs.Calls.{inquireReasons}
+use Rattle.reasons.specs.Reasons.{Reasons, firstOf}
+use Rattle.table.specs.Answers.{Reply}
+use Rattle.reasons.specs.Reasons.{decided}
+use Rattle.reasons.specs.Checks.{openReasons}
+use Rattle.reasons.specs.Checks.{reseedReasons}
+use Rattle.reasons.specs.Checks.{drawReasons}
+use Rattle.reasons.specs.Checks.{freshDrawReasons}
+use Rattle.reasons.specs.Checks.{closeReasons}
+use Rattle.reasons.specs.Checks.{inquireReasons}
 use Rattle.table.specs.Answers.{Answer}
-use Rattle.table.proofs.FirstReason.{numbered}
-use Rattle.table.proofs.Outcomes.{Decision, decision}
+use Rattle.reasons.proofs.FirstReason.{numbered}
+use Rattle.reasons.proofs.Decisions.{Decision, decision}
 use Rattle.table.specs.Calls.{refusal, service}
 use Rattle.table.specs.Calls.{Call, opens, reseeds, draws, freshDraws, closes, inquires, reply, reasonsOf}
 

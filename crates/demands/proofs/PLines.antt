@@ -19,11 +19,12 @@ use Rattle.slots.specs.declared.slot.Slot.{Slot}
 use Rattle.slots.specs.Layout.{Table}
 use Rattle.slots.proofs.Soundness.{sound-fresh}
 use Rattle.slots.proofs.Handles.{names-fresh}
-use Rattle.table.specs.Reasons.{Reasons, _when_else_, firstOf, rounded}
-use Rattle.table.specs.Answers.{decided}
+use Rattle.reasons.specs.Reasons.{Reasons, _when_else_, firstOf}
+use Rattle.reasons.specs.Checks.{rounded}
+use Rattle.reasons.specs.Reasons.{decided}
 use Rattle.table.specs.Calls.{reply}
-use Rattle.table.specs.Calls.{openReasons}
-use Rattle.table.specs.Calls.{closeReasons}
+use Rattle.reasons.specs.Checks.{openReasons}
+use Rattle.reasons.specs.Checks.{closeReasons}
 use Rattle.demands.specs.Calls.{answer, number, after}
 use Rattle.table.specs.Calls.{Call, opens, closes, reasonsOf}
 use Rattle.table.specs.Calls.{Under, close}

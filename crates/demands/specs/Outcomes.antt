@@ -9,7 +9,8 @@ use Rattle.slots.specs.Layout.{freeSlot, withSlot, lastSerial}
 use Rattle.slots.specs.Handle.{handleOf, slotOf, lowestFree}
 use Rattle.slots.specs.declared.slot.Slot.{Slot}
 use Rattle.slots.specs.Layout.{Table}
-use Rattle.table.specs.Reasons.{Reasons, served, _when_else_, rounded}
+use Rattle.reasons.specs.Reasons.{Reasons, served, _when_else_}
+use Rattle.reasons.specs.Checks.{rounded}
 use Rattle.table.specs.Answers.{Reply, refused, accepted, stepped, steppedDraw, withGenerator, newSlot, installed}
 use Rattle.table.specs.Served.{stateIn, opened, reseeded, drawn, freshDrawn}
 use Rattle.table.specs.Answers.{Answer}
