@@ -9,7 +9,7 @@ use slots::layout;
 use slots::sound;
 ghost use mathlib.Core.Path.{_≡_};
 ghost use Rattle.table.specs.Calls.{freshDraws};
-ghost use Rattle.table.specs.OnBytes.{inBytes};
+ghost use Rattle.table.specs.OnBytes.{leaving, inBytes};
 
 pub fn fresh_draw<'a>(
     table: &mut [u8],
@@ -19,7 +19,7 @@ pub fn fresh_draw<'a>(
     entropy: &'a [u8],
     additional: &'a [u8],
 ) -> Told
-    ensures { λ r. ⌜ record { told = r; table = now (table .exit); output = now (out .exit) }
+    ensures { λ r. ⌜ leaving r (now (table .exit)) (now (out .exit))
         ≡ inBytes (freshDraws handle strength (now (out .entry)) (now (entropy .entry)) (now (additional .entry))) (now (table .entry)) ⌝ }
 {
     if !sound::is_sound(table) {

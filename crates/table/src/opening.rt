@@ -10,7 +10,7 @@ use slots::sound;
 ghost use mathlib.Core.Path.{_≡_};
 ghost use mathlib.Core.List.{[]};
 ghost use Rattle.table.specs.Calls.{opens};
-ghost use Rattle.table.specs.OnBytes.{inBytes};
+ghost use Rattle.table.specs.OnBytes.{leaving, inBytes};
 
 pub fn open<'a>(
     table: &mut [u8],
@@ -22,8 +22,9 @@ pub fn open<'a>(
     nonce: &'a [u8],
     personalization: &'a [u8],
 ) -> Told
-    ensures { λ r. ⌜ record { told = r; table = now (table .exit); output = [] }
-        ≡ inBytes (opens mechanism strength interval fresh (now (entropy .entry)) (now (nonce .entry)) (now (personalization .entry))) (now (table .entry)) ⌝ }
+    ensures { λ r. ⌜ leaving r (now (table .exit)) []
+        ≡ inBytes (opens mechanism strength interval fresh (now (entropy .entry)) (now (nonce .entry)) (now (personalization .entry)))
+        (now (table .entry)) ⌝ }
 {
     if !sound::is_sound(table) {
         return answers::refused(1);

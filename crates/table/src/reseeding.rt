@@ -10,10 +10,10 @@ use slots::sound;
 ghost use mathlib.Core.Path.{_≡_};
 ghost use mathlib.Core.List.{[]};
 ghost use Rattle.table.specs.Calls.{reseeds};
-ghost use Rattle.table.specs.OnBytes.{inBytes};
+ghost use Rattle.table.specs.OnBytes.{leaving, inBytes};
 
 pub fn reseed<'a>(table: &mut [u8], handle: u64, entropy: &'a [u8], additional: &'a [u8]) -> Told
-    ensures { λ r. ⌜ record { told = r; table = now (table .exit); output = [] }
+    ensures { λ r. ⌜ leaving r (now (table .exit)) []
         ≡ inBytes (reseeds handle (now (entropy .entry)) (now (additional .entry))) (now (table .entry)) ⌝ }
 {
     if !sound::is_sound(table) {
