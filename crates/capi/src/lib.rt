@@ -33,7 +33,8 @@ pub extern "C" fn purangsa_open<'a>(
     value: &mut u64,
 ) -> u64
     ensures { λ r. ⌜ leaves r (now (blocks .exit)) (now (value .exit)) (now (table .exit)) []
-        ≡ inBytes (opens mechanism strength interval (not (eqb fresh 0)) (now (entropy .entry)) (now (nonce .entry)) (now (personalization .entry)))
+        ≡ inBytes
+        (opens mechanism strength interval (not (eqb fresh 0)) (now (entropy .entry)) (now (nonce .entry)) (now (personalization .entry)))
         (now (table .entry)) ⌝ }
 {
     tell(

@@ -22,11 +22,12 @@ use Rattle.slots.specs.declared.slot.Slot.{Slot}
 use Rattle.slots.proofs.Slots.{slotAt-same, slotAt-other, lastSerial-withSlot}
 use Rattle.slots.proofs.Soundness.{sound-fresh, sound-has}
 use Rattle.slots.proofs.Handles.{named-is, slot-below, lowest-most}
-use Rattle.table.specs.Reasons.{Reasons, firstOf, rounded, NoneHolds}
-use Rattle.table.specs.Answers.{Reply, decided, stepped, installed, withGenerator, newSlot, generatorOf}
+use Rattle.reasons.specs.Reasons.{Reasons, firstOf, NoneHolds, decided}
+use Rattle.reasons.specs.Checks.{rounded}
+use Rattle.table.specs.Answers.{Reply, stepped, installed, withGenerator, newSlot, generatorOf}
 use Rattle.table.specs.Served.{mechanismIn, stateIn}
-use Rattle.table.proofs.FirstReason.{numbered, none-holds}
-use Rattle.table.proofs.Allowed.{may-open, may-reseed, may-draw, may-draw-fresh}
+use Rattle.reasons.proofs.FirstReason.{numbered, none-holds}
+use Rattle.reasons.proofs.Allowed.{may-open, may-reseed, may-draw, may-draw-fresh}
 use Rattle.table.specs.Calls.{Call, reply, reasonsOf, refusal, service}
 use Rattle.table.specs.declared.answers.Told.{Told}
 use Rattle.demands.specs.Calls.{answer}

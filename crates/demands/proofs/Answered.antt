@@ -10,12 +10,12 @@ use lib.ListN.{length}
 use Rattle.slots.specs.Layout.{slotAt, lastSerial, freshTable, Table}
 use Rattle.slots.specs.Handle.{lowestFree}
 use Rattle.slots.proofs.Soundness.{sound-fresh}
-use Rattle.table.specs.Reasons.{firstOf, Reasons, _when_else_, NoneHolds, First, this, later}
-use Rattle.table.proofs.FirstReason.{none-holds}
+use Rattle.reasons.specs.Reasons.{firstOf, Reasons, _when_else_, NoneHolds, First, this, later}
+use Rattle.reasons.proofs.FirstReason.{none-holds}
 use Rattle.table.specs.Answers.{Reply, stepped, installed}
-use Rattle.table.specs.Calls.{openReasons, reseedReasons, drawReasons, freshDrawReasons, closeReasons, inquireReasons, refusal, service}
-use Rattle.table.specs.Calls.{Call, opens, reseeds, draws, freshDraws, closes, inquires, reply, reasonsOf}
-use Rattle.table.proofs.Outcomes.{refusing, serving}
+use Rattle.reasons.specs.Checks.{openReasons, reseedReasons, drawReasons, freshDrawReasons, closeReasons, inquireReasons}
+use Rattle.table.specs.Calls.{refusal, service, Call, opens, reseeds, draws, freshDraws, closes, inquires, reply, reasonsOf}
+use Rattle.reasons.proofs.Decisions.{refusing, serving}
 use Rattle.demands.proofs.Outcome.{all-numbered, Outcome, outcome}
 use Rattle.demands.specs.Calls.{number, order}
 use Rattle.demands.specs.Outcomes.{numbersOf, Answered, serves, refuses}

@@ -14,7 +14,7 @@ use Rattle.slots.specs.Handle.{inUse, slotOf, names, lowestFree}
 use Rattle.slots.specs.declared.slot.Slot.{Slot}
 use Rattle.slots.proofs.Handles.{named-is, names-used, names-serial, names-by, sound-named, lowest-most, handle-serial}
 use Rattle.table.specs.Answers.{Answer}
-use Rattle.table.proofs.Allowed.{may-open, may-reseed, may-draw-fresh}
+use Rattle.reasons.proofs.Allowed.{may-open, may-reseed, may-draw-fresh}
 use Rattle.table.specs.Calls.{Call, opens, reseeds, freshDraws}
 use Rattle.demands.specs.Calls.{answer, number, after, afterAll}
 use Rattle.demands.specs.Draws.{drawsServed, NoReseed}

@@ -18,12 +18,13 @@ use Rattle.slots.specs.Handle.{slotOf, names, lookUp, named, lowestFree}
 use Rattle.slots.specs.declared.slot.Slot.{Slot}
 use Rattle.slots.proofs.Soundness.{sound-fresh}
 use Rattle.slots.proofs.Handles.{named-is}
-use Rattle.table.specs.Reasons.{NoneHolds, firstOf, rounded}
-use Rattle.table.specs.Calls.{Call, opens, reseeds, draws, freshDraws, closes, inquires, reasonsOf, openReasons, drawReasons}
+use Rattle.reasons.specs.Reasons.{NoneHolds, firstOf}
+use Rattle.reasons.specs.Checks.{rounded, openReasons, drawReasons}
+use Rattle.table.specs.Calls.{Call, opens, reseeds, draws, freshDraws, closes, inquires, reasonsOf}
 use Rattle.table.specs.Answers.{Reply, stepped, installed, newSlot}
 use Rattle.table.specs.Served.{mechanismIn, stateIn}
-use Rattle.table.proofs.Outcomes.{refusing, serving}
-use Rattle.table.proofs.Allowed.{may-open, may-reseed, may-draw, may-draw-fresh}
+use Rattle.reasons.proofs.Decisions.{refusing, serving}
+use Rattle.reasons.proofs.Allowed.{may-open, may-reseed, may-draw, may-draw-fresh}
 use Rattle.demands.specs.Calls.{answer, number, after}
 use Rattle.demands.specs.Blocks.{countOf, firstOpening, longestDraw}
 use Rattle.demands.proofs.Outcome.{Outcome, outcome}

@@ -23,8 +23,8 @@ use Rattle.slots.proofs.Soundness.{sound-has}
 use Rattle.slots.proofs.Handles.{named-is, names-used, names-serial, names-by, sound-named, slot-below, lowest-free, lowest-most}
 use Rattle.table.specs.Answers.{Reply, stepped, installed, generatorOf}
 use Rattle.table.specs.Served.{mechanismIn, stateIn}
-use Rattle.table.proofs.Outcomes.{refusing, serving}
-use Rattle.table.proofs.Allowed.{may-open, may-reseed, may-draw, may-draw-fresh, may-close}
+use Rattle.reasons.proofs.Decisions.{refusing, serving}
+use Rattle.reasons.proofs.Allowed.{may-open, may-reseed, may-draw, may-draw-fresh, may-close}
 use Rattle.table.specs.Calls.{Call, opens, reseeds, draws, freshDraws, closes, inquires, draw}
 use Rattle.demands.specs.Calls.{answer, number, after, afterAll}
 use Rattle.demands.specs.Draws.{left, drewBy, drawsServed, reseededBy, NoReseed, none, more}

@@ -16,9 +16,9 @@ use Rattle.slots.proofs.Slots.{slotAt-same, slotAt-other, lastSerial-withSlot, 
 use Rattle.slots.proofs.Soundness.{sound-has}
 use Rattle.slots.proofs.Handles.{named-is, names-used, names-serial, names-fresh, sound-named, slot-below, handle-serial, handle-parts}
 use Rattle.table.specs.Calls.{Call, closes, reasonsOf, Under}
-use Rattle.table.proofs.FirstReason.{first-is}
+use Rattle.reasons.proofs.FirstReason.{first-is}
 use Rattle.table.proofs.Exits.{first-unnamed}
-use Rattle.table.proofs.Allowed.{may-close}
+use Rattle.reasons.proofs.Allowed.{may-close}
 use Rattle.demands.specs.Calls.{answer, number, after, afterAll}
 use Rattle.demands.specs.Handles.{issuedBy, issued, Listed, here, there, Distinct, Rising}
 use Rattle.demands.specs.Handles as H

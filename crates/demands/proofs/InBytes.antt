@@ -21,10 +21,10 @@ use Rattle.slots.proofs.Soundness.{Used}
 use Rattle.slots.specs.Bytes.{tableBytes, tableOf}
 use Rattle.slots.specs.Machine.{Fits, Machine}
 use Rattle.slots.proofs.TableBytes.{length-tableBytes, bytes-tableOf, tableOf-bytes, machine-tableOf, fresh-bytes}
-use Rattle.table.specs.Reasons.{_when_else_, First, this, later}
+use Rattle.reasons.specs.Reasons.{_when_else_, First, this, later}
 use Rattle.table.specs.Answers.{Reply, stepped, installed}
-use Rattle.table.proofs.Outcomes.{refusing, serving}
-use Rattle.table.proofs.Allowed.{may-open}
+use Rattle.reasons.proofs.Decisions.{refusing, serving}
+use Rattle.reasons.proofs.Allowed.{may-open}
 use Rattle.table.specs.OnBytes.{Done, done, inBytes}
 use Rattle.table.proofs.OnBytes.{replied-on}
 use Rattle.table.specs.Calls.{Call, opens, reseeds, draws, freshDraws, closes, inquires, reasonsOf, reply}

@@ -13,8 +13,8 @@ use Rattle.slots.proofs.Slots.{slotAt-same, slotAt-other, lastSerial-withSlot, 
 use Rattle.slots.proofs.Soundness.{sound-has}
 use Rattle.slots.proofs.Handles.{slot-below, lowest-free, lowest-before}
 use Rattle.table.specs.Answers.{Reply, stepped, installed}
-use Rattle.table.proofs.Outcomes.{refusing, serving}
-use Rattle.table.proofs.Allowed.{may-close}
+use Rattle.reasons.proofs.Decisions.{refusing, serving}
+use Rattle.reasons.proofs.Allowed.{may-close}
 use Rattle.table.specs.Calls.{Call, opens, reseeds, draws, freshDraws, closes, inquires, Under, reseed, draw, fresh-draw, close, inquire}
 use Rattle.demands.specs.Calls.{number, after, own}
 use Rattle.demands.specs.Handles.{UsedBelow}

@@ -23,9 +23,9 @@ use Rattle.slots.proofs.Soundness.{Used, used-sound, free-sound, sound-fresh, s
 use Rattle.slots.proofs.Handles.{named-is, sound-named, lowest-most}
 use Rattle.table.specs.Answers.{Reply, stepped, installed, withGenerator, generatorOf}
 use Rattle.table.specs.Served.{mechanismIn, stateIn}
-use Rattle.table.proofs.Outcomes.{refusing, serving}
+use Rattle.reasons.proofs.Decisions.{refusing, serving}
 use Rattle.table.proofs.Standing.{used-standing, used-new, sized-in}
-use Rattle.table.proofs.Allowed.{may-open, may-reseed, may-draw, may-draw-fresh, may-close}
+use Rattle.reasons.proofs.Allowed.{may-open, may-reseed, may-draw, may-draw-fresh, may-close}
 use Rattle.table.specs.Calls.{Call, opens, reseeds, draws, freshDraws, closes, inquires}
 use Rattle.demands.specs.Calls.{answer, after, afterAll}
 use Rattle.demands.specs.Handles.{issuedBy}

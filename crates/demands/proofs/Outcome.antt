@@ -2,11 +2,12 @@
 use mathlib.Core.Path.{_≡_, refl, sym, subst}
 use mathlib.Core.Bool.{true}
 use Rattle.slots.specs.Layout.{Table}
-use Rattle.table.specs.Answers.{Reply, decided}
-use Rattle.table.specs.Calls.{openReasons, reseedReasons, drawReasons, freshDrawReasons, closeReasons, inquireReasons, refusal, service}
-use Rattle.table.specs.Calls.{Call, opens, reseeds, draws, freshDraws, closes, inquires, reply, reasonsOf}
-use Rattle.table.proofs.FirstReason.{numbered}
-use Rattle.table.proofs.Outcomes.{Decision, decision}
+use Rattle.reasons.specs.Reasons.{decided}
+use Rattle.table.specs.Answers.{Reply}
+use Rattle.reasons.specs.Checks.{openReasons, reseedReasons, drawReasons, freshDrawReasons, closeReasons, inquireReasons}
+use Rattle.table.specs.Calls.{refusal, service, Call, opens, reseeds, draws, freshDraws, closes, inquires, reply, reasonsOf}
+use Rattle.reasons.proofs.FirstReason.{numbered}
+use Rattle.reasons.proofs.Decisions.{Decision, decision}
 
 abbrev pub Outcome : Table → Call → Reply → Type 0
 Outcome t c = Decision (reasonsOf t c) (refusal t c) (service t c)

@@ -20,10 +20,10 @@ use Rattle.slots.specs.Handle.{handleOf, names, lookUp, lowestFree}
 use Rattle.slots.specs.declared.slot.Slot.{Slot}
 use Rattle.slots.proofs.Soundness.{sound-fresh}
 use Rattle.slots.proofs.Handles.{names-fresh}
-use Rattle.table.specs.Reasons.{Reasons, _when_else_, firstOf, rounded}
-use Rattle.table.specs.Answers.{decided}
-use Rattle.table.specs.Calls.{reply, openReasons, closeReasons, opens, closes, close}
-use Rattle.table.proofs.FirstReason.{first-is}
+use Rattle.reasons.specs.Reasons.{Reasons, _when_else_, firstOf, decided}
+use Rattle.reasons.specs.Checks.{rounded, openReasons, closeReasons}
+use Rattle.table.specs.Calls.{reply, opens, closes, close}
+use Rattle.reasons.proofs.FirstReason.{first-is}
 use Rattle.demands.specs.Calls.{number}
 use Rattle.demands.proofs.Answered.{number-first, fresh-served}
 use Rattle.demands.proofs.Handles.{unnamed-2}

@@ -22,12 +22,12 @@ use Rattle.slots.specs.declared.slot.Slot.{Slot}
 use Rattle.slots.proofs.Slots.{slotAt-same, slotAt-withLastSerial, lastSerial-withLastSerial}
 use Rattle.slots.proofs.Soundness.{sound-has}
 use Rattle.slots.proofs.Handles.{named-is, sound-named, slot-below, lowest-most, handle-slot}
-use Rattle.table.specs.Reasons.{rounded}
+use Rattle.reasons.specs.Checks.{rounded}
 use Rattle.table.specs.Answers.{Reply, stepped, installed, withGenerator, newSlot, Answer}
 use Rattle.table.specs.Served.{mechanismIn, stateIn}
-use Rattle.table.proofs.Outcomes.{refusing, serving}
+use Rattle.reasons.proofs.Decisions.{refusing, serving}
 use Rattle.table.proofs.Standing.{sized-in}
-use Rattle.table.proofs.Allowed.{may-open, may-reseed, may-draw, may-draw-fresh}
+use Rattle.reasons.proofs.Allowed.{may-open, may-reseed, may-draw, may-draw-fresh}
 use Rattle.table.specs.Calls.{Call, opens, reseeds, draws, freshDraws, reply}
 use Rattle.demands.specs.Calls.{answer, number, after}
 use Rattle.demands.specs.Calls as Calls

@@ -9,7 +9,7 @@ use lib.ListN.{length}
 use Rattle.slots.specs.Sizes.{slotSize, lastAt, tableSize}
 use Rattle.slots.specs.Layout.{Table}
 use Rattle.slots.specs.Bytes.{tableOf}
-use Rattle.table.specs.Reasons.{Reasons, _when_else_}
+use Rattle.reasons.specs.Reasons.{Reasons, _when_else_}
 use Rattle.table.specs.Answers.{Reply}
 use Rattle.table.specs.Calls.{Call, lent, reasonsOf, Under}
 use Rattle.table.specs.OnBytes.{Done, toldRefused, inBytes}

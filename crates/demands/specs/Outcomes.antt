@@ -7,7 +7,7 @@ use Rattle.drbg.specs.Generator.{standing}
 use Rattle.slots.specs.Layout.{Table, lastSerial}
 use Rattle.slots.specs.Handle.{handleOf, slotOf, lowestFree}
 use Rattle.slots.specs.declared.slot.Slot.{Slot}
-use Rattle.table.specs.Reasons.{Reasons, served, _when_else_, NoneHolds, First}
+use Rattle.reasons.specs.Reasons.{Reasons, served, _when_else_, NoneHolds, First}
 use Rattle.table.specs.Answers.{Answer, Reply, withGenerator}
 use Rattle.table.specs.Served.{stateIn}
 use Rattle.table.specs.Calls.{Call, reasonsOf, refusal, service}

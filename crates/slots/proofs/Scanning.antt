@@ -48,12 +48,26 @@ or-none : (b : Bool) → b ≡ (b || false)
 or-none true = refl
 or-none false = refl
 
+-- the slot with another mechanism
+abbrev of-mechanism : ℕ → Slot → Slot
+of-mechanism m s =
+    record {
+      mechanism = m;
+      strength = s .strength;
+      interval = s .interval;
+      counter = s .counter;
+      fresh = s .fresh;
+      serial = s .serial;
+      first = s .first;
+      second = s .second;
+    }
+
 module _ (last : ℕ) (s : Slot) (first : length (s .first) ≡ fieldSize) (second : length (s .second) ≡ fieldSize) where
   abbrev free-so : Bool
-  free-so = freeNumbers (s .mechanism) (s .strength) (s .interval) (s .counter) (s .fresh) (s .serial)
+  free-so = freeNumbers s
 
   abbrev used-so : Bool
-  used-so = usedNumbers (s .mechanism) (s .strength) (s .interval) (s .counter) (s .fresh) (s .serial) last
+  used-so = usedNumbers last s
 
   abbrev front-zero : List ℕ → Bool
   front-zero field = allZero (take 32 field)
@@ -76,8 +90,7 @@ module _ (last : ℕ) (s : Slot) (first : length (s .first) ≡ fieldSize) (seco
   pub free-sound-by : s .mechanism ≡ 0 → {free f g r q : Bool} → free ≡ free-so → f ≡ front-zero (s .first) → g ≡ front-zero (s .second)
       → r ≡ rest-zero (s .first) → q ≡ rest-zero (s .second) → (free && (f && g) && (r && q)) ≡ soundSlot last s
   free-sound-by none {free} {f} {g} {r} {q} is-free is-f is-g is-r is-q =
-      let unused : used-so ≡ false =
-      ap (λ m. usedNumbers m (s .strength) (s .interval) (s .counter) (s .fresh) (s .serial) last) none in
+      let unused : used-so ≡ false = ap (λ m. usedNumbers last (of-mechanism m s)) none in
       ap (λ b. b && (f && g) && (r && q)) is-free ∙
       or-none (free-so && (f && g) && (r && q)) ∙
       ap (λ b. free-so && (f && g) && (r && q) || b && (eqb (s .mechanism) 2 || r && q)) (sym unused) ∙

@@ -88,14 +88,33 @@ module _ (s : List ℕ) (b : Bytes s) (sized : length s ≡ tableSize) where
   bytes-tableOf = ap (λ u. slotsBytes (slotsFrom 16 s) ++ u) last-bytes ∙ slots-bytes 16 s b room
 
   -- a slot put in where it stands
-  pub table-put : (i : ℕ) (x : Slot) {p : List ℕ} → i < 16 → p ≡ slotBytes x
-      → take (slotSize * i) s ++ (p ++ drop (slotSize * i + slotSize - slotSize * i) (drop (slotSize * i) s)) ≡ tableBytes (withSlot (tableOf s) i x)
-  unfolding tableBytes tableOf withSlot
-  table-put i x below is =
-      let whole : slotSize * i + slotSize - slotSize * i ≡ slotSize = omega arith in
-      ap₂ (λ u v. take (slotSize * i) s ++ (u ++ v)) is (ap (λ n. drop n (drop (slotSize * i) s)) whole ∙ drop-drop slotSize (slotSize * i) s) ∙
-      sym (slots-put 16 i s x below b room) ∙
-      ap (λ u. slotsBytes (set (slotsFrom 16 s) i x) ++ u) (sym last-bytes)
+  module _ (i : ℕ) (x : Slot) (below : i < 16) where
+    abbrev place : ℕ
+    place = slotSize * i
+
+    put-is : tableBytes (withSlot (tableOf s) i x) ≡ take place s ++ (slotBytes x ++ drop (place + slotSize) s)
+    unfolding tableBytes tableOf withSlot
+    put-is = ap (λ u. slotsBytes (set (slotsFrom 16 s) i x) ++ u) last-bytes ∙ slots-put 16 i s x below b room
+
+    pub table-put : {p : List ℕ} → p ≡ slotBytes x
+        → take place s ++ (p ++ drop (place + slotSize - place) (drop place s)) ≡ tableBytes (withSlot (tableOf s) i x)
+    table-put is =
+        let whole : place + slotSize - place ≡ slotSize = omega arith in
+        ap₂ (λ u v. take place s ++ (u ++ v)) is (ap (λ n. drop n (drop place s)) whole ∙ drop-drop slotSize place s) ∙ sym put-is
+
+    -- it changes no byte outside its place
+    front-sized : length (take place s) ≡ place
+    front-sized = length-take-le place s (omega (arith, sized))
+
+    pub kept-before : take place (tableBytes (withSlot (tableOf s) i x)) ≡ take place s
+    kept-before = ap (take place) put-is ∙ take-at (take place s) (slotBytes x ++ drop (place + slotSize) s) place front-sized
+
+    pub kept-behind : Fits x → drop (place + slotSize) (tableBytes (withSlot (tableOf s) i x)) ≡ drop (place + slotSize) s
+    kept-behind fits =
+        ap (drop (place + slotSize)) put-is ∙
+        sym (drop-drop slotSize place (take place s ++ (slotBytes x ++ drop (place + slotSize) s))) ∙
+        ap (drop slotSize) (drop-at (take place s) (slotBytes x ++ drop (place + slotSize) s) place front-sized) ∙
+        drop-at (slotBytes x) (drop (place + slotSize) s) slotSize (length-slotBytes x fits)
 
 -- a slot read where it stands
 pub slot-read : (s : List ℕ) (i : ℕ) → i < 16 → slotFrom (take (slotSize * i + slotSize - slotSize * i) (drop (slotSize * i) s)) ≡ slotAt (tableOf s) i
@@ -163,6 +182,13 @@ module _ (t : Table) (m : Machine t) where
       (ap (λ s. fromLittleEndian (take 4 s)) (drop-at (slotsBytes (t .slots)) last lastAt front) ∙
       ap fromLittleEndian (take-all 4 last (le-of-eq (length-littleEndian 4 (t .last)))) ∙
       from-littleEndian 4 (t .last) (m .last))
+
+  -- the last serial put in changes no byte of the slots
+  pub last-kept : (serial : ℕ) → take lastAt (tableBytes (withLastSerial t serial)) ≡ take lastAt (tableBytes t)
+  unfolding tableBytes withLastSerial
+  last-kept serial =
+      take-at (slotsBytes (t .slots)) (littleEndian 4 serial) lastAt front ∙
+      sym (take-at (slotsBytes (t .slots)) (littleEndian 4 (t .last)) lastAt front)
 
 -- all bytes zero are the fresh table
 pub fresh-bytes : tableOf (replicate tableSize 0) ≡ freshTable

@@ -1,10 +1,9 @@
--- Handles and the lowest free slot. Handle = 16 × serial + slot.
+-- Document 01, 'Slots, handles and counters': handles, and the lowest free slot. Handle = 16 × serial + slot.
 use Prim.Native.Nat.{ℕ, zero, suc, _+_, _*_, _/_, _%_}
-use mathlib.Core.Bool.{Bool, true, false, not, _&&_, cond}
+use mathlib.Core.Bool.{Bool, not, _&&_, cond}
 use lib.Dec.{eqb}
-use Rattle.slots.specs.Layout.{slotAt}
 use Rattle.slots.specs.declared.slot.Slot.{Slot}
-use Rattle.slots.specs.Layout.{Table}
+use Rattle.slots.specs.Layout.{Table, slotAt}
 use Rattle.slots.specs.declared.handle.Found.{Found}
 use Rattle.slots.specs.declared.handle.Found.the-variants.{At, Nothing}
 
@@ -25,10 +24,13 @@ names t handle = inUse (slotOf t handle) && eqb (slotOf t handle .serial) (handl
 unfoldable pub lookUp : Table → (handle : ℕ) → Found
 lookUp t handle = cond (names t handle) (At (handle % 16)) Nothing
 
--- the cases of a look-up: the slot of the generator that the handle names; or nothing, which is answer 2
+-- the cases of a look-up, with document 01's number for each: the slot of the generator that the handle names; or nothing
+abbrev pub lookUpNumber : Found → ℕ
+lookUpNumber (At i) = 0
+lookUpNumber Nothing = 2
+
 abbrev pub named : Found → Bool
-named (At i) = true
-named Nothing = false
+named found = eqb (lookUpNumber found) 0
 
 -- the lowest free one of the n slots from `from` on, or the number past them
 unfoldable pub lowestFree : Table → (from n : ℕ) → ℕ

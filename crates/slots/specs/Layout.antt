@@ -1,12 +1,12 @@
--- The table's slots and its last serial. Definitions and proofs reach them through these alone, so that a change of the layout
--- moves a handful of laws.
+-- Document 01's table: 16 slots and the last serial given. Definitions and proofs reach them through these alone, so that a change of
+-- the layout moves a handful of laws. A `Slot` is the struct of src/slot.rt: mechanism (0: free), strength, interval, counter, fresh
+-- right, serial, and the two fields.
 use Rattle.slots.specs.Sizes.{fieldSize}
 use Prim.Native.Nat.{ℕ}
 use mathlib.Core.List.{List, []}
 use lib.ListN.{getD, set, replicate}
 use Rattle.slots.specs.declared.slot.Slot.{Slot}
 
--- document 01's table: 16 slots and the last serial
 pub record Table : Type 0 where
   pub slots : List Slot
   pub last : ℕ

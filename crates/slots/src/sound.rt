@@ -4,6 +4,7 @@ use crate::numbers;
 use crate::sizes;
 ghost use Rattle.slots.specs.Sizes.{slotSize, tableSize, fieldSize};
 ghost use mathlib.Core.Path.{_≡_};
+ghost use mathlib.Core.List.{[]};
 ghost use Prim.Native.Nat.{_+_, _≤_};
 ghost use lib.ListN.{length};
 ghost use Rattle.slots.specs.Sound.{allZero, between, freeNumbers, usedNumbers, soundSlot, sound};
@@ -19,7 +20,8 @@ fn counter_fits(counter: u64, interval: u64) -> bool
     (1 <= counter) & (before <= interval)
 }
 
-pub fn free_numbers(
+// A slot with these numbers, whatever its fields.
+fn free_numbers(
     mechanism: u8,
     strength: u16,
     interval: u64,
@@ -27,7 +29,16 @@ pub fn free_numbers(
     fresh: u8,
     serial: u32,
 ) -> bool
-    ensures { λ r. ⌜ r ≡ freeNumbers mechanism strength interval counter fresh serial ⌝ }
+    ensures { λ r. ⌜ r ≡ freeNumbers (record {
+      mechanism = mechanism;
+      strength = strength;
+      interval = interval;
+      counter = counter;
+      fresh = fresh;
+      serial = serial;
+      first = [];
+      second = [];
+    }) ⌝ }
 {
     (mechanism == 0)
         & (strength == 0)
@@ -37,7 +48,7 @@ pub fn free_numbers(
         & (serial == 0)
 }
 
-pub fn used_numbers(
+fn used_numbers(
     mechanism: u8,
     strength: u16,
     interval: u64,
@@ -46,7 +57,16 @@ pub fn used_numbers(
     serial: u32,
     last: u32,
 ) -> bool
-    ensures { λ r. ⌜ r ≡ usedNumbers mechanism strength interval counter fresh serial last ⌝ }
+    ensures { λ r. ⌜ r ≡ usedNumbers last (record {
+      mechanism = mechanism;
+      strength = strength;
+      interval = interval;
+      counter = counter;
+      fresh = fresh;
+      serial = serial;
+      first = [];
+      second = [];
+    }) ⌝ }
 {
     ((mechanism == 1) | (mechanism == 2))
         & ((strength == 112) | (strength == 128) | (strength == 192) | (strength == 256))

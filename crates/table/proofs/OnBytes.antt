@@ -15,7 +15,7 @@ use Rattle.slots.specs.Sound.{sound}
 use Rattle.slots.specs.Bytes.{tableOf, soundBytes}
 use Rattle.slots.proofs.Flags.{both}
 use Rattle.slots.proofs.TableBytes.{bytes-tableOf}
-use Rattle.table.specs.Reasons.{firstOf}
+use Rattle.reasons.specs.Reasons.{firstOf}
 use Rattle.table.specs.Answers.{Reply}
 use Rattle.table.specs.Calls.{Call, lent, reasonsOf, refusal, service, reply}
 use Rattle.table.specs.OnBytes.{toldRefused, done, inBytes}

@@ -1,10 +1,9 @@
 -- How a call comes out, by what it found: an unsound table, a handle that names nothing, a reason, or none. Assumes nothing.
-use mathlib.Core.Path.{_≡_, refl, sym, ap, ap₂, subst, _∙_}
-use mathlib.Core.Bool.{Bool, true, false, not, cond}
-use Prim.Native.Nat.{ℕ, zero, suc, _%_, _^_, _<_}
+use mathlib.Core.Path.{_≡_, sym, ap, ap₂, subst, _∙_}
+use mathlib.Core.Bool.{Bool, true, false, not}
+use Prim.Native.Nat.{ℕ, _%_, _^_, _<_}
 use native.Mathlib.Omega.{arith}
-use borrow.Author.Tests.{not-true, not-false, eq-eqb, ne-eqb}
-use lib.Dec.{eqb, eqb·suc-zero}
+use borrow.Author.Tests.{not-true, not-false}
 use Rattle.drbg.specs.declared.generator.Generator.{Generator}
 use Rattle.slots.specs.Layout.{lastSerial, slotAt, Table}
 use Rattle.slots.specs.Sound.{sound}
@@ -14,36 +13,8 @@ use Rattle.slots.specs.declared.handle.Found.{Found}
 use Rattle.slots.specs.declared.handle.Found.the-variants.{At, Nothing}
 use Rattle.slots.proofs.Soundness.{Used}
 use Rattle.slots.proofs.Handles.{found-at, named-is, sound-named}
-use Rattle.table.specs.Reasons.{Reasons, firstOf, NoneHolds, First}
-use Rattle.table.specs.Answers.{decided, generatorOf}
-use Rattle.table.proofs.FirstReason.{numbered, none-holds, first-is}
-
-module _ {A : Type 0} (reasons : Reasons) (refusal : ℕ → A) (served : A) (n : ℕ) (first : n ≡ firstOf reasons) where
-  pub refused-by : (n ≡ 0 → ⊥) → refusal n ≡ decided reasons refusal served
-  unfolding decided
-  refused-by some =
-      ap (λ b. cond b served (refusal n)) (sym (ne-eqb n 0 some)) ∙ ap (λ k. cond (eqb k 0) served (refusal k)) first
-
-  pub served-by : n ≡ 0 → served ≡ decided reasons refusal served
-  unfolding decided
-  served-by none =
-      ap (λ b. cond b served (refusal n)) (sym (eq-eqb n 0 none)) ∙ ap (λ k. cond (eqb k 0) served (refusal k)) first
-
--- the two ways in which a call comes out
-pub data Decision {A : Type 0} (reasons : Reasons) (refusal : ℕ → A) (served : A) : A → Type 0 where
-  refusing : (n : ℕ) → First (suc n) reasons → Decision reasons refusal served (refusal (suc n))
-  serving : NoneHolds reasons → Decision reasons refusal served served
-
-pub decision : {A : Type 0} (reasons : Reasons) (refusal : ℕ → A) (served : A) → numbered reasons ≡ true
-    → Decision reasons refusal served (decided reasons refusal served)
-unfolding decided
-decision reasons refusal served ok = go (firstOf reasons) refl
-  where
-    go : (n : ℕ) → firstOf reasons ≡ n → Decision reasons refusal served (cond (eqb n 0) served (refusal n))
-    go zero e = serving (none-holds reasons ok e)
-    go (suc n) e =
-        subst (λ b. Decision reasons refusal served (cond b served (refusal (suc n)))) (sym (eqb·suc-zero n))
-        (refusing n (first-is reasons n e))
+use Rattle.reasons.specs.Reasons.{Reasons, firstOf}
+use Rattle.table.specs.Answers.{generatorOf}
 
 module _ (t : Table) where
   pub unsound : {is : Bool} → is ≡ sound t → not is ≡ true → sound t ≡ false

@@ -25,7 +25,7 @@ use Rattle.slots.proofs.Flags.{or-first, or-second}
 use Rattle.slots.proofs.Zeros.{all-zero-replicate}
 use Rattle.slots.proofs.Soundness.{Field, Used, used-sound, free-sound, sound-withSlot, sound-opened}
 use Rattle.slots.proofs.Handles.{sound-named}
-use Rattle.table.specs.Reasons.{rounded}
+use Rattle.reasons.specs.Checks.{rounded}
 use Rattle.table.specs.Answers.{generatorOf, withGenerator, newSlot}
 use Rattle.table.specs.Served.{mechanismIn, stateIn}
 

@@ -2,7 +2,6 @@
 use Prim.Native.Nat.{ℕ}
 use mathlib.Core.Bool.{Bool, cond}
 use mathlib.Core.List.{List}
-use lib.Dec.{eqb}
 use Rattle.drbg.specs.Generator.{Filled}
 use Rattle.drbg.specs.declared.generator.Generator.{Generator}
 use Rattle.drbg.specs.declared.generator.Served.{Served}
@@ -10,7 +9,6 @@ use Rattle.slots.specs.Layout.{slotAt, withSlot, withLastSerial}
 use Rattle.slots.specs.Handle.{handleOf}
 use Rattle.slots.specs.declared.slot.Slot.{Slot}
 use Rattle.slots.specs.Layout.{Table}
-use Rattle.table.specs.Reasons.{Reasons, firstOf}
 
 pub record Answer : Type 0 where
   pub number : ℕ
@@ -29,10 +27,6 @@ accepted t blocks value = record { number = 0; table = t; blocks = blocks; value
 pub record Reply : Type 0 where
   pub answer : Answer
   pub output : List ℕ
-
--- the first reason that holds, or what is served where none does
-unfoldable pub decided : {A : Type 0} → Reasons → (refusal : ℕ → A) (served : A) → A
-decided reasons refusal served = cond (eqb (firstOf reasons) 0) served (refusal (firstOf reasons))
 
 -- the generator that a slot holds
 abbrev pub generatorOf : Slot → Generator

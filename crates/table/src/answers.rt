@@ -11,7 +11,7 @@ ghost use lib.ListN.{length};
 ghost use Rattle.slots.specs.Layout.{slotAt};
 ghost use Rattle.table.specs.Answers.{generatorOf, withGenerator, stepped, newSlot};
 ghost use Rattle.slots.specs.Bytes.{tableOf};
-ghost use Rattle.table.specs.OnBytes.{toldRefused, toldServed, done};
+ghost use Rattle.table.specs.OnBytes.{leaving, toldRefused, toldServed, done};
 
 pub struct Told {
     pub number: u64,
@@ -71,7 +71,7 @@ pub fn with_generator(s: Slot, g: Generator) -> Slot
 // The generator in slot i, which is s, has made its step.
 pub fn stepped(table: &mut [u8], i: usize, s: Slot, served: Served) -> Told
     requires { ⌜ (length (now table) ≡ tableSize) × (i < 16) × (s ≡ slotAt (tableOf (now table)) i) ⌝ }
-    ensures { λ r. ⌜ record { told = r; table = now (table .exit); output = [] }
+    ensures { λ r. ⌜ leaving r (now (table .exit)) []
         ≡ done (record { answer = stepped (tableOf (now (table .entry))) i served; output = [] }) ⌝ }
 {
     let g = served.generator;

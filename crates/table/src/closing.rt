@@ -9,10 +9,10 @@ use slots::sound;
 ghost use mathlib.Core.Path.{_≡_};
 ghost use mathlib.Core.List.{[]};
 ghost use Rattle.table.specs.Calls.{closes};
-ghost use Rattle.table.specs.OnBytes.{inBytes};
+ghost use Rattle.table.specs.OnBytes.{leaving, inBytes};
 
 pub fn close(table: &mut [u8], handle: u64) -> Told
-    ensures { λ r. ⌜ record { told = r; table = now (table .exit); output = [] }
+    ensures { λ r. ⌜ leaving r (now (table .exit)) []
         ≡ inBytes (closes handle) (now (table .entry)) ⌝ }
 {
     if !sound::is_sound(table) {

@@ -2,36 +2,14 @@
 use crate::answers;
 use crate::answers::Told;
 use crate::answers::generator_of;
-use crate::reasons;
 use drbg::generator;
 use slots::handle;
 use slots::handle::Found;
 use slots::layout;
 use slots::sound;
 ghost use mathlib.Core.Path.{_≡_};
-ghost use Rattle.table.specs.Reasons.{firstOf};
-ghost use mathlib.Core.Bool.{true};
-ghost use Rattle.table.specs.Calls.{freshDrawReasons, freshDraws};
-ghost use Rattle.table.specs.OnBytes.{inBytes};
-
-// The first reason, 0 where there is none, once the table is sound and the handle names a generator of strength `own`.
-pub fn reason(
-    own: u16,
-    fresh: u8,
-    strength: u64,
-    request: usize,
-    entropy: usize,
-    additional: usize,
-) -> u64
-    ensures { λ r. ⌜ r ≡ firstOf (freshDrawReasons true true own fresh strength request entropy additional) ⌝ }
-{
-    let least = (own / 8) as usize;
-    let n = reasons::or_else(0, 65536 < request, 10);
-    let n = reasons::or_else(n, (own as u64) < strength, 4);
-    let n = reasons::or_else(n, 1024 < additional, 7);
-    let n = reasons::or_else(n, fresh == 0, 11);
-    reasons::or_else(n, (entropy < least) | (1024 < entropy), 8)
-}
+ghost use Rattle.table.specs.Calls.{freshDraws};
+ghost use Rattle.table.specs.OnBytes.{leaving, inBytes};
 
 pub fn fresh_draw<'a>(
     table: &mut [u8],
@@ -41,7 +19,7 @@ pub fn fresh_draw<'a>(
     entropy: &'a [u8],
     additional: &'a [u8],
 ) -> Told
-    ensures { λ r. ⌜ record { told = r; table = now (table .exit); output = now (out .exit) }
+    ensures { λ r. ⌜ leaving r (now (table .exit)) (now (out .exit))
         ≡ inBytes (freshDraws handle strength (now (out .entry)) (now (entropy .entry)) (now (additional .entry))) (now (table .entry)) ⌝ }
 {
     if !sound::is_sound(table) {
@@ -51,7 +29,7 @@ pub fn fresh_draw<'a>(
         return answers::refused(2);
     };
     let s = layout::slot_at(table, i);
-    let n = reason(
+    let n = reasons::fresh_draw_reason(
         s.strength,
         s.fresh,
         strength,

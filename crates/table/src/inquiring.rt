@@ -8,10 +8,10 @@ use slots::sound;
 ghost use mathlib.Core.Path.{_≡_};
 ghost use mathlib.Core.List.{[]};
 ghost use Rattle.table.specs.Calls.{inquires};
-ghost use Rattle.table.specs.OnBytes.{inBytes};
+ghost use Rattle.table.specs.OnBytes.{leaving, inBytes};
 
 pub fn inquire(table: &[u8], handle: u64) -> Told
-    ensures { λ r. ⌜ record { told = r; table = now (table .entry); output = [] }
+    ensures { λ r. ⌜ leaving r (now (table .entry)) []
         ≡ inBytes (inquires handle) (now (table .entry)) ⌝ }
 {
     if !sound::is_sound(table) {

@@ -2,43 +2,15 @@
 use crate::answers;
 use crate::answers::Told;
 use crate::answers::new_slot;
-use crate::reasons;
 use drbg::generator;
 use slots::handle;
 use slots::handle::handle_of;
 use slots::layout;
 use slots::sound;
 ghost use mathlib.Core.Path.{_≡_};
-ghost use Rattle.table.specs.Reasons.{firstOf};
 ghost use mathlib.Core.List.{[]};
-ghost use Rattle.table.specs.Calls.{openReasons, opens};
-ghost use Rattle.table.specs.OnBytes.{inBytes};
-
-// The first reason, 0 where there is none.
-pub fn reason(
-    sound: bool,
-    mechanism: u64,
-    strength: u64,
-    interval: u64,
-    entropy: usize,
-    nonce: usize,
-    personalization: usize,
-    slot: usize,
-    last: u32,
-) -> u64
-    ensures { λ r. ⌜ r ≡ firstOf (openReasons sound mechanism strength interval entropy nonce personalization slot last) ⌝ }
-{
-    let least = (reasons::rounded(strength) / 8) as usize;
-    let n = reasons::or_else(0, !sound, 1);
-    let n = reasons::or_else(n, (mechanism != 1) & (mechanism != 2), 3);
-    let n = reasons::or_else(n, 256 < strength, 4);
-    let n = reasons::or_else(n, (interval < 1) | (281474976710656 < interval), 5);
-    let n = reasons::or_else(n, 512 < personalization, 6);
-    let n = reasons::or_else(n, (entropy < least) | (1024 < entropy), 8);
-    let n = reasons::or_else(n, (nonce < 8) | (64 < nonce), 9);
-    let n = reasons::or_else(n, slot == 16, 13);
-    reasons::or_else(n, last == 4294967295, 14)
-}
+ghost use Rattle.table.specs.Calls.{opens};
+ghost use Rattle.table.specs.OnBytes.{leaving, inBytes};
 
 pub fn open<'a>(
     table: &mut [u8],
@@ -50,16 +22,16 @@ pub fn open<'a>(
     nonce: &'a [u8],
     personalization: &'a [u8],
 ) -> Told
-    ensures { λ r. ⌜ record { told = r; table = now (table .exit); output = [] }
-        ≡ inBytes (opens mechanism strength interval fresh (now (entropy .entry)) (now (nonce .entry)) (now (personalization .entry))) (now (table .entry)) ⌝ }
+    ensures { λ r. ⌜ leaving r (now (table .exit)) []
+        ≡ inBytes (opens mechanism strength interval fresh (now (entropy .entry)) (now (nonce .entry)) (now (personalization .entry)))
+        (now (table .entry)) ⌝ }
 {
     if !sound::is_sound(table) {
         return answers::refused(1);
     }
     let i = handle::lowest_free(table, 0, 16);
     let last = layout::last_serial(table);
-    let n = reason(
-        true,
+    let n = reasons::open_reason(
         mechanism,
         strength,
         interval,

@@ -1,12 +1,11 @@
 // Line 9 of document 01's edges, and an unsound table of each kind, run on the calls themselves: what a book can't reach.
 // A line holds a name, the answer's number, blocks and value, and for a draw the SHA-256 of the lent output as it then is.
+use doors::Answer;
+use doors::Held;
 use sha256::running;
 use slots::layout;
 use slots::sizes;
 use slots::slot::Slot;
-use table::doors;
-use table::doors::Answer;
-use table::doors::Held;
 use test_output::print_bytes;
 use test_output::print_number;
 use test_output::print_text;

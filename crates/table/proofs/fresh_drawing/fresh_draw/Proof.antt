@@ -1,87 +1,113 @@
--- No sound table, no such generator, refused by a reason, or served. Assumes nothing.
-use mathlib.Core.Path.{refl, sym, ap, _∙_}
+-- No sound table, no such generator, refused by a reason, or served. Each exit cites the law of what it has found. Assumes nothing.
+use mathlib.Core.Path.{_≡_, refl, sym, ap, _∙_}
+use mathlib.Core.List.{List}
+use Prim.Native.Nat.{ℕ}
 use borrow.Author.Needs.{needs}
-use Rattle.table.proofs.Outcomes.{Named, names-slot, unnamed, below}
-use Rattle.table.specs.Calls.{freshDraws, fresh-draw}
-use Rattle.table.proofs.Exits.{first-unnamed, first-fresh-draw, fresh-draw-served, fresh-draw-allowed}
 use Rattle.slots.specs.Bytes.{tableOf}
+use Rattle.reasons.specs.Reasons.{firstOf}
+use Rattle.reasons.proofs.Allowed.{may-draw-fresh}
+use Rattle.table.specs.Calls.{Call, freshDraws, fresh-draw, reasonsOf}
 use Rattle.table.specs.OnBytes.{Done}
+use Rattle.table.proofs.Outcomes.{Named, names-slot, unnamed, below}
+use Rattle.table.proofs.Exits.{first-unnamed, first-fresh-draw, fresh-draw-served, allowed}
 use Rattle.table.proofs.OnBytes.{Whole, whole, bytes-known, served-on, refused-on, unsound-on, two-some}
 use Rattle.table.proofs.fresh_drawing.fresh_draw.Statement.{statement}
 use Rattle.table.proofs.fresh_drawing.fresh_draw.Tie as tie
 
-scanned : (c : tie.Else1) → Whole (c .before .before .before .before .before .before .before .args .table .now)
+-- the bytes and the call, as the contract has them
+abbrev bytes : tie.Start → List ℕ
+bytes c = c .args .table .now
+
+abbrev asked : tie.Start → Call
+asked c = freshDraws (c .args .handle) (c .args .strength) (c .args .out .now) (c .args .entropy .now) (c .args .additional .now)
+
+-- places of the code: the lent table, the scan, the look-up, the slot, the first reason
+abbrev known : tie.After-is-sound → tie.After-slice-known
+known c = c .before .before .before .before .before
+
+abbrev scan : tie.After-look-up → tie.Else1
+scan c = c .before .before
+
+abbrev looked : tie.After-known-told → tie.After-look-up
+looked c = c .before .before .before
+
+abbrev slot : tie.After-fresh-draw-reason → tie.After-slot-at
+slot c = c .before
+
+abbrev found : tie.After-fresh-draw-reason → tie.After-known-told
+found c = slot c .before .before
+
+abbrev start : tie.After-look-up → tie.Start
+start c = known (scan c .before) .before
+
+abbrev begun : tie.After-fresh-draw-reason → tie.Start
+begun c = start (looked (found c))
+
+scanned : (c : tie.Else1) → Whole (bytes (known (c .before) .before))
 scanned c = whole (c .before .is-sound .ensures) (c .if1 .left)
 
-names-it : (c : tie.After-known-told) →
-    let a = c .before .before .before .before .before .before .before .before .before .before .before .before .args in
-    Named (tableOf (a .table .now)) (a .handle) (c .before .i .given .0 .0)
+names-it : (c : tie.After-known-told) → let s = start (looked c) in Named (tableOf (bytes s)) (s .args .handle) (c .before .i .given .0 .0)
 names-it c =
-    names-slot _ _ _ (scanned (c .before .before .before .before .before) .sound) refl (c .before .before .before .look-up .ensures)
-    (c .before .i .given .1)
+    names-slot _ _ _ (scanned (scan (looked c)) .sound) refl (looked c .look-up .ensures) (c .before .i .given .1)
+
+first : (c : tie.After-fresh-draw-reason) → let s = begun c in c .fresh-draw-reason .result ≡ firstOf (reasonsOf (tableOf (bytes s)) (asked s))
+first c =
+    let a = begun c .args in
+    first-fresh-draw (names-it (found c)) (slot c .slot-at .ensures) (a .strength) (a .out .now) (a .entropy .now) (a .additional .now) (c .fresh-draw-reason .ensures)
 
 returns : tie.Need-returns
 returns c =
-    let known = c .before .before .before .before .before .before .before in
-    let a = known .before .args in
-    unsound-on _ _ (bytes-known (known .slice-known .given)) (c .refused .ensures) (c .before .before .is-sound .ensures)
-    (c .before .if1 .taken)
+    let at = c .before .before in
+    unsound-on _ _ (bytes-known (known at .slice-known .given)) (c .refused .ensures) (at .is-sound .ensures) (c .before .if1 .taken)
 
 look-up-requires : tie.Need-look-up-requires
 look-up-requires c κs = scanned (c .before) .sized
 
 returns-2 : tie.Need-returns-2
 returns-2 c =
-    let known = c .before .before .before .before .before .before .before .before .before .before .before in
-    let a = known .before .args in
-    let t = tableOf (a .table .now) in
-    let w = scanned (c .before .before .before .before .before) in
-    refused-on _ _ (bytes-known (known .slice-known .given)) (c .refused2 .ensures) (w .sized)
-    (first-unnamed t (freshDraws (a .handle) (a .strength) (a .out .now) (a .entropy .now) (a .additional .now)) (a .handle) fresh-draw (sym (w .sound))
-    (unnamed t (a .handle) (c .before .before .before .look-up .ensures) (c .before .enum-told .given .1)))
+    let at = c .before .before .before in
+    let w = scanned (scan at) in
+    let t = tableOf (bytes (start at)) in
+    let handle = start at .args .handle in
+    refused-on _ _ (bytes-known (known (scan at .before) .slice-known .given)) (c .refused2 .ensures) (w .sized)
+    (first-unnamed t (asked (start at)) handle fresh-draw (sym (w .sound))
+    (unnamed t handle (at .look-up .ensures) (c .before .enum-told .given .1)))
     two-some
 
 slot-at-requires : tie.Need-slot-at-requires
-slot-at-requires c κs = (scanned (c .before .before .before .before .before .before) .sized, below (names-it (c .before)))
+slot-at-requires c κs = (scanned (scan (looked (c .before))) .sized, below (names-it (c .before)))
 
 returns-3 : tie.Need-returns-3
 returns-3 c =
-    let told = c .before .before .before .before .before in
-    let known = told .before .before .before .before .before .before .before .before .before .before .before in
-    let a = known .before .args in
-    refused-on _ _ (bytes-known (known .slice-known .given)) (c .refused3 .ensures)
-    (scanned (told .before .before .before .before .before) .sized)
-    (first-fresh-draw (names-it told) (c .before .before .before .slot-at .ensures) (a .strength) (a .out .now) (a .entropy .now) (a .additional .now) (c .before .before .reason .ensures))
+    let at = c .before .before in
+    let past = scan (looked (found at)) in
+    refused-on _ _ (bytes-known (known (past .before) .slice-known .given)) (c .refused3 .ensures) (scanned past .sized) (first at)
     (c .before .if2 .taken)
 
 fresh-drawn-requires : tie.Need-fresh-drawn-requires
 fresh-drawn-requires c κs =
-    let made = c .before in
-    let told = made .before .before .before .before .before in
-    let a = told .before .before .before .before .before .before .before .before .before .before .before .before .args in
-    let may =
-    fresh-draw-allowed (names-it told) (made .before .before .before .slot-at .ensures) (a .strength) (a .out .now) (a .entropy .now) (a .additional .now) (made .before .before .reason .ensures) (made .before .if2 .left) in
+    let served = c .before .before in
+    let at = served .before in
+    let may = may-draw-fresh (allowed (tableOf (bytes (begun at))) (asked (begun at)) (first at) (served .if2 .left)) in
     (may .request-most, may .entropy-most, may .additional-most)
 
 stepped-requires : tie.Need-stepped-requires
 stepped-requires c κs =
-    let told = c .before .before .before .before .before .before .before .before .before .before in (
-      scanned (told .before .before .before .before .before) .sized,
-      below (names-it told),
-      c .before .before .before .before .before .before .before .before .slot-at .ensures,
-    )
+    let at = c .before .before .before .before .before .before .before in
+    (scanned (scan (looked (found at))) .sized, below (names-it (found at)), slot at .slot-at .ensures)
 
 returns-4 : tie.Need-returns-4
 returns-4 c =
-    let served = c .before .before .before .before .before .before in
-    let made = served .before .before in
-    let told = made .before .before .before .before .before in
-    let a = told .before .before .before .before .before .before .before .before .before .before .before .before .args in
-    ap (λ (d : Done). record { told = d .told; table = d .table; output = served .fresh-drawn .last .1 .1 .0 })
+    let filled = c .before .before .before .before .before .before in
+    let made = filled .before .before in
+    let served = made .before in
+    let at = served .before in
+    let a = begun at .args in
+    ap (λ (d : Done). record { told = d .told; table = d .table; output = filled .fresh-drawn .last .1 .1 .0 })
     (c .before .before .stepped .ensures) ∙
-    served-on _ _ (scanned (told .before .before .before .before .before) .sized)
-    (first-fresh-draw (names-it told) (made .before .before .before .slot-at .ensures) (a .strength) (a .out .now) (a .entropy .now) (a .additional .now) (made .before .before .reason .ensures)) (made .before .if2 .left)
-    (fresh-draw-served (names-it told) (made .before .before .before .slot-at .ensures) (a .strength) (a .out .now) (a .entropy .now) (a .additional .now) (rw (made .generator-of .ensures) at (served .fresh-drawn .ensures)))
+    served-on _ _ (scanned (scan (looked (found at))) .sized) (first at) (served .if2 .left)
+    (fresh-draw-served (names-it (found at)) (slot at .slot-at .ensures) (a .strength) (a .out .now) (a .entropy .now) (a .additional .now)
+    (rw (made .generator-of .ensures) at (filled .fresh-drawn .ensures)))
 
 pub fresh-draw-spec : {M : Type 1} → statement M
 fresh-draw-spec =
@@ -89,5 +115,4 @@ fresh-draw-spec =
     (tie.spec
     (λ c κs. search needs) (λ c κs. search needs) (λ c. search needs) returns look-up-requires (λ c. search needs) (λ c. search needs)
     (λ c κs. search needs) (λ c. search needs) returns-2 slot-at-requires (λ c κs. search needs) (λ c κs. search needs)
-    (λ c. search needs) returns-3 (λ c κs. search needs) fresh-drawn-requires stepped-requires (λ c. search needs) (λ c. search needs)
-    returns-4)
+    (λ c. search needs) returns-3 (λ c κs. search needs) fresh-drawn-requires stepped-requires (λ c. search needs) (λ c. search needs) returns-4)

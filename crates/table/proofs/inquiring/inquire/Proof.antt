@@ -1,33 +1,53 @@
 -- No sound table, no such generator, or served: a sound slot has a small interval, and a counter not past it by more than 1.
 -- Assumes nothing.
 use mathlib.Core.Path.{refl, sym, ap₂, _∙_}
-use mathlib.Core.List.{[]}
+use mathlib.Core.List.{List, []}
+use Prim.Native.Nat.{ℕ}
 use native.Mathlib.Omega.{arith}
 use borrow.Author.Needs.{needs}
-use Rattle.table.proofs.Outcomes.{Named, names-slot, unnamed, below, used-here}
-use Rattle.table.specs.Calls.{inquires, inquire}
-use Rattle.table.proofs.Exits.{first-unnamed, first-inquire, inquire-served}
 use Rattle.slots.specs.Bytes.{tableOf}
 use Rattle.slots.proofs.TableBytes.{bytes-tableOf}
+use Rattle.table.specs.Calls.{Call, inquires, inquire}
+use Rattle.table.proofs.Outcomes.{Named, names-slot, unnamed, below, used-here}
+use Rattle.table.proofs.Exits.{first-unnamed, first-inquire, inquire-served}
 use Rattle.table.proofs.OnBytes.{Whole, whole, bytes-known, served-on, refused-on, unsound-on, two-some}
 use Rattle.table.proofs.inquiring.inquire.Statement.{statement}
 use Rattle.table.proofs.inquiring.inquire.Tie as tie
 
-scanned : (c : tie.Else1) → Whole (c .before .before .before .args .table .now)
+-- the bytes and the call, as the contract has them
+abbrev bytes : tie.Start → List ℕ
+bytes c = c .args .table .now
+
+abbrev asked : tie.Start → Call
+asked c = inquires (c .args .handle)
+
+-- places of the code: the lent table, the scan, the look-up, the slot
+abbrev known : tie.After-is-sound → tie.After-shared-slice-known
+known c = c .before
+
+abbrev scan : tie.After-look-up → tie.Else1
+scan c = c .before
+
+abbrev looked : tie.After-known-told → tie.After-look-up
+looked c = c .before .before .before
+
+abbrev found : tie.After-slot-at → tie.After-known-told
+found c = c .before
+
+abbrev start : tie.After-look-up → tie.Start
+start c = known (scan c .before) .before
+
+scanned : (c : tie.Else1) → Whole (bytes (known (c .before) .before))
 scanned c = whole (c .before .is-sound .ensures) (c .if1 .left)
 
-names-it : (c : tie.After-known-told) →
-    let a = c .before .before .before .before .before .before .before .args in
-    Named (tableOf (a .table .now)) (a .handle) (c .before .i .given .0 .0)
+names-it : (c : tie.After-known-told) → let s = start (looked c) in Named (tableOf (bytes s)) (s .args .handle) (c .before .i .given .0 .0)
 names-it c =
-    names-slot _ _ _ (scanned (c .before .before .before .before) .sound) refl (c .before .before .before .look-up .ensures)
-    (c .before .i .given .1)
+    names-slot _ _ _ (scanned (scan (looked c)) .sound) refl (looked c .look-up .ensures) (c .before .i .given .1)
 
 returns : tie.Need-returns
 returns c =
-    let known = c .before .before .before in
-    let a = known .before .args in
-    unsound-on _ _ (bytes-known (known .shared-slice-known .given)) (c .refused .ensures) (c .before .before .is-sound .ensures)
+    let at = c .before .before in
+    unsound-on _ _ (bytes-known (known at .shared-slice-known .given)) (c .refused .ensures) (at .is-sound .ensures)
     (c .before .if1 .taken)
 
 look-up-requires : tie.Need-look-up-requires
@@ -35,35 +55,32 @@ look-up-requires c κs = scanned c .sized
 
 returns-2 : tie.Need-returns-2
 returns-2 c =
-    let known = c .before .before .before .before .before .before in
-    let a = known .before .args in
-    let t = tableOf (a .table .now) in
-    let w = scanned (c .before .before .before .before) in
-    refused-on _ _ (bytes-known (known .shared-slice-known .given)) (c .refused2 .ensures) (w .sized)
-    (first-unnamed t (inquires (a .handle)) (a .handle) inquire (sym (w .sound))
-    (unnamed t (a .handle) (c .before .before .before .look-up .ensures) (c .before .enum-told .given .1)))
+    let at = c .before .before .before in
+    let w = scanned (scan at) in
+    let t = tableOf (bytes (start at)) in
+    let handle = start at .args .handle in
+    refused-on _ _ (bytes-known (known (scan at .before) .shared-slice-known .given)) (c .refused2 .ensures) (w .sized)
+    (first-unnamed t (asked (start at)) handle inquire (sym (w .sound))
+    (unnamed t handle (at .look-up .ensures) (c .before .enum-told .given .1)))
     two-some
 
 slot-at-requires : tie.Need-slot-at-requires
-slot-at-requires c κs = (scanned (c .before .before .before .before) .sized, below (names-it c))
+slot-at-requires c κs = (scanned (scan (looked c)) .sized, below (names-it c))
 
 add-accepted : tie.Need-add-accepted
-add-accepted c = let u = used-here (names-it (c .before .before)) (c .before .slot-at .ensures) in omega arith
+add-accepted c = let u = used-here (names-it (found (c .before))) (c .before .slot-at .ensures) in omega arith
 
 sub-accepted : tie.Need-sub-accepted
-sub-accepted c = let u = used-here (names-it (c .before .before .before)) (c .before .before .slot-at .ensures) in omega arith
+sub-accepted c = let at = c .before .before in let u = used-here (names-it (found at)) (at .slot-at .ensures) in omega arith
 
 returns-3 : tie.Need-returns-3
 returns-3 c =
-    let told = c .before .before .before .before in
-    let known = told .before .before .before .before .before .before in
-    let a = known .before .args in
-    let s = a .table .now in
-    let w = scanned (told .before .before .before .before) in
+    let at = c .before .before .before in
+    let past = scan (looked (found at)) in
+    let w = scanned past in
     ap₂ (λ r e. record { told = r; table = e; output = [] }) (c .accepted .ensures)
-    (sym (bytes-tableOf s (bytes-known (known .shared-slice-known .given)) (w .sized))) ∙
-    served-on _ _ (w .sized) (first-inquire (names-it told)) refl
-    (inquire-served (names-it told) (c .before .before .before .slot-at .ensures))
+    (sym (bytes-tableOf (bytes (start (looked (found at)))) (bytes-known (known (past .before) .shared-slice-known .given)) (w .sized))) ∙
+    served-on _ _ (w .sized) (first-inquire (names-it (found at))) refl (inquire-served (names-it (found at)) (at .slot-at .ensures))
 
 pub inquire-spec : {M : Type 1} → statement M
 inquire-spec =

@@ -1,50 +1,72 @@
--- No sound table, refused by a reason, or served. Assumes nothing.
-use mathlib.Core.Path.{ap, ap₂, _∙_}
+-- No sound table, refused by a reason, or served. Each exit cites the law of what it has found. Assumes nothing.
+use mathlib.Core.Path.{_≡_, sym, ap, ap₂, _∙_}
 use mathlib.Core.Logic.{⊎-elim}
-use mathlib.Core.List.{[]}
+use mathlib.Core.List.{List, []}
 use native.Mathlib.Omega.{arith}
-use Prim.Native.Nat.{_+_}
-use lib.ListN.{length}
+use Prim.Native.Nat.{ℕ, _+_, _<_}
 use borrow.Author.Needs.{needs}
 use Rattle.slots.specs.Layout.{withSlot, withLastSerial}
-use Rattle.table.specs.Reasons.{firstOf}
-use Rattle.table.specs.Answers.{newSlot, installed}
-use Rattle.table.specs.Calls.{openReasons}
-use Rattle.table.proofs.Allowed.{MayOpen}
-use Rattle.table.proofs.Exits.{Weighed, first-open, open-served, open-allowed, open-slot}
 use Rattle.slots.specs.Bytes.{tableBytes, tableOf}
+use Rattle.reasons.specs.Reasons.{firstOf, NoneHolds}
+use Rattle.reasons.proofs.Allowed.{may-open}
+use Rattle.table.specs.Answers.{newSlot, installed}
+use Rattle.table.specs.Calls.{Call, opens, reasonsOf}
 use Rattle.table.specs.OnBytes.{toldServed}
+use Rattle.table.proofs.Exits.{first-open, open-served, open-slot, allowed}
 use Rattle.table.proofs.OnBytes.{Whole, whole, bytes-known, served-on, refused-on, unsound-on}
 use Rattle.table.proofs.opening.open.Statement.{statement}
 use Rattle.table.proofs.opening.open.Tie as tie
 
-scanned : (c : tie.Else1) → Whole (c .before .before .before .before .before .before .before .args .table .now)
+-- the bytes and the call, as the contract has them
+abbrev bytes : tie.Start → List ℕ
+bytes c = c .args .table .now
+
+abbrev asked : tie.Start → Call
+asked c =
+    let a = c .args in
+    opens (a .mechanism) (a .strength) (a .interval) (a .fresh) (a .entropy .now) (a .nonce .now) (a .personalization .now)
+
+-- places of the code: the lent table, the lowest free slot, the last serial, the first reason
+abbrev known : tie.After-is-sound → tie.After-slice-known
+known c = c .before .before .before .before .before
+
+abbrev serial : tie.After-open-reason → tie.After-last-serial
+serial c = c .before
+
+abbrev lowest : tie.After-open-reason → tie.After-lowest-free
+lowest c = serial c .before .before
+
+abbrev scan : tie.After-open-reason → tie.Else1
+scan c = lowest c .before .before
+
+abbrev begun : tie.After-open-reason → tie.Start
+begun c = known (scan c .before) .before
+
+scanned : (c : tie.Else1) → Whole (bytes (known (c .before) .before))
 scanned c = whole (c .before .is-sound .ensures) (c .if1 .left)
 
-weighed : (c : tie.After-reason) →
-    let a = c .before .before .before .before .before .before .before .before .before .before .before .before .args in
-    Weighed (tableOf (a .table .now)) (a .mechanism) (a .strength) (a .interval) (a .entropy .now) (a .nonce .now) (a .personalization .now)
-    (c .before .before .before .lowest-free .result) (c .before .last-serial .result) (c .reason .result)
-weighed c =
-    let a = c .before .before .before .before .before .before .before .before .before .before .before .before .args in
-    record {
-      lowest = c .before .before .before .lowest-free .ensures;
-      serial = c .before .last-serial .ensures;
-      first =
-          c .reason .ensures ∙
-          ap
-          (λ b. firstOf
-          (openReasons b (a .mechanism) (a .strength) (a .interval) (length (a .entropy .now)) (length (a .nonce .now))
-          (length (a .personalization .now)) (c .before .before .before .lowest-free .result) (c .before .last-serial .result)))
-          (scanned (c .before .before .before .before .before) .sound);
-    }
+first : (c : tie.After-open-reason) → c .open-reason .result ≡ firstOf (reasonsOf (tableOf (bytes (begun c))) (asked (begun c)))
+first c =
+    let a = begun c .args in
+    first-open (tableOf (bytes (begun c))) (lowest c .lowest-free .ensures) (serial c .last-serial .ensures) (a .mechanism) (a .strength)
+    (a .interval) (a .fresh) (a .entropy .now) (a .nonce .now) (a .personalization .now) (sym (scanned (scan c) .sound))
+    (c .open-reason .ensures)
+
+-- once no reason is found
+none : (c : tie.Else2) → let s = begun (c .before) in NoneHolds (reasonsOf (tableOf (bytes s)) (asked s))
+none c = let s = begun (c .before) in allowed (tableOf (bytes s)) (asked s) (first (c .before)) (c .if2 .left)
+
+slot-below : (c : tie.Else2) → lowest (c .before) .lowest-free .result < 16
+slot-below c =
+    let at = c .before in
+    let a = begun at .args in
+    open-slot (tableOf (bytes (begun at))) (lowest at .lowest-free .ensures) (serial at .last-serial .ensures) (a .mechanism)
+    (a .strength) (a .interval) (a .fresh) (a .entropy .now) (a .nonce .now) (a .personalization .now) (none c)
 
 returns : tie.Need-returns
 returns c =
-    let known = c .before .before .before .before .before .before .before in
-    let a = known .before .args in
-    unsound-on _ _ (bytes-known (known .slice-known .given)) (c .refused .ensures) (c .before .before .is-sound .ensures)
-    (c .before .if1 .taken)
+    let at = c .before .before in
+    unsound-on _ _ (bytes-known (known at .slice-known .given)) (c .refused .ensures) (at .is-sound .ensures) (c .before .if1 .taken)
 
 lowest-free-requires : tie.Need-lowest-free-requires
 lowest-free-requires c κs = (scanned (c .before) .sized, search needs, search needs)
@@ -54,54 +76,47 @@ last-serial-requires c κs = scanned (c .before .before .before) .sized
 
 returns-2 : tie.Need-returns-2
 returns-2 c =
-    let known = c .before .before .before .before .before .before .before .before .before .before .before .before .before in
-    refused-on _ _ (bytes-known (known .slice-known .given)) (c .refused2 .ensures)
-    (scanned (c .before .before .before .before .before .before .before) .sized)
-    (first-open (weighed (c .before .before)) (known .before .args .fresh)) (c .before .if2 .taken)
+    let at = c .before .before in
+    refused-on _ _ (bytes-known (known (scan at .before) .slice-known .given)) (c .refused2 .ensures) (scanned (scan at) .sized) (first at)
+    (c .before .if2 .taken)
 
 cast-kind : tie.Need-cast-kind
-cast-kind c =
-    ⊎-elim (λ one. omega (arith, one)) (λ two. omega (arith, two))
-    (open-allowed (weighed (c .before)) (c .if2 .left) .mechanism-so)
+cast-kind c = ⊎-elim (λ one. omega (arith, one)) (λ two. omega (arith, two)) (may-open (none c) .mechanism-so)
 
 add-serial : tie.Need-add-serial
-add-serial c = omega (arith, open-allowed (weighed (c .before)) (c .if2 .left) .serials-left)
+add-serial c = omega (arith, serial (c .before) .last-serial .ensures, may-open (none c) .serials-left)
 
 opened-requires : tie.Need-opened-requires
-opened-requires c κs =
-    let may = open-allowed (weighed (c .before)) (c .if2 .left) in
-    (may .entropy-most, may .nonce-most, may .personalization-most)
+opened-requires c κs = let may = may-open (none c) in (may .entropy-most, may .nonce-most, may .personalization-most)
 
 put-new-slot-requires : tie.Need-put-new-slot-requires
 put-new-slot-requires c κs =
     let chosen = c .before .before .before .before .before in
-    (scanned (chosen .before .before .before .before .before .before) .sized, open-slot (weighed (chosen .before)) (chosen .if2 .left))
+    (scanned (scan (chosen .before)) .sized, slot-below chosen)
 
 handle-of-requires : tie.Need-handle-of-requires
-handle-of-requires c κs =
-    let chosen = c .before .before .before .before .before .before .before .before in
-    open-slot (weighed (chosen .before)) (chosen .if2 .left)
+handle-of-requires c κs = slot-below (c .before .before .before .before .before .before .before .before)
 
 returns-3 : tie.Need-returns-3
 unfolding installed
 returns-3 c =
     let new = c .before .before .before .before .before .before in
-    let opened = new .before .before .before in
-    let chosen = opened .before in
-    let a = chosen .before .before .before .before .before .before .before .before .before .before .before .before .before .args in
-    let t = tableOf (a .table .now) in
-    let i = chosen .before .before .before .before .lowest-free .result in
-    let serial = chosen .before .before .last-serial .result + 1 in
+    let served = new .before .before .before in
+    let chosen = served .before in
+    let at = chosen .before in
+    let a = begun at .args in
+    let t = tableOf (bytes (begun at)) in
+    let i = lowest at .lowest-free .result in
+    let next = serial at .last-serial .result + 1 in
     ap₂ (λ r e. record { told = r; table = e; output = [] })
-    (c .accepted .ensures ∙ ap (toldServed (opened .opened .result .blocks)) (c .before .handle-of .ensures))
+    (c .accepted .ensures ∙ ap (toldServed (served .opened .result .blocks)) (c .before .handle-of .ensures))
     (c .before .before .before .before .put-new-slot .ensures ∙
-    ap (λ x. tableBytes (withLastSerial (withSlot t i x) serial))
+    ap (λ x. tableBytes (withLastSerial (withSlot t i x) next))
     (new .new-slot .ensures ∙
-    ap (λ k. newSlot (a .mechanism) k (a .interval) (a .fresh) serial (opened .opened .result .generator))
-    (new .before .rounded .ensures))) ∙
-    served-on _ _ (scanned (chosen .before .before .before .before .before .before) .sized)
-    (first-open (weighed (chosen .before)) (a .fresh)) (chosen .if2 .left)
-    (open-served (weighed (chosen .before)) (a .fresh) (opened .opened .ensures))
+    ap (λ k. newSlot (a .mechanism) k (a .interval) (a .fresh) next (served .opened .result .generator)) (new .before .rounded .ensures))) ∙
+    served-on _ _ (scanned (scan at) .sized) (first at) (chosen .if2 .left)
+    (open-served t (lowest at .lowest-free .ensures) (serial at .last-serial .ensures) (a .mechanism) (a .strength) (a .interval)
+    (a .fresh) (a .entropy .now) (a .nonce .now) (a .personalization .now) (served .opened .ensures))
 
 pub open-spec : {M : Type 1} → statement M
 open-spec =

@@ -1,0 +1,2 @@
+-- What the promises of the exported functions determine.
+pub mod Determined

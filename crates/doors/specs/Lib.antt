@@ -1,0 +1,2 @@
+-- What a call by value hands back.
+pub mod Doors

@@ -1,0 +1,5 @@
+-- Laws of reasons, and of each call's.
+pub mod FirstReason
+pub mod Decisions
+pub mod Ahead
+pub mod Allowed
