@@ -5,7 +5,6 @@ use Prim.Native.Nat.{ℕ, _+_, _*_, _/_, _≤_}
 use native.Mathlib.Omega.{arith}
 use lib.Dec.{lit<}
 use lib.ListN.{length, take, length-take}
-use Rattle.standard.specs.Metered.{Metered}
 use Rattle.standard.specs.Strings.{bytesOf, ceiling}
 use Rattle.standard.specs.Hash.{hash}
 use Rattle.standard.specs.HashDf.{hashDf, hashDfTurns}
@@ -13,8 +12,8 @@ use Rattle.standard.specs.Sha256.{sha256}
 use Rattle.standard.proofs.Counts.{hashDf-blocks}
 use Rattle.sha256.specs.Values.{digestOf}
 use Rattle.sha256.specs.declared.running.Digest.{Digest}
-use Rattle.drbg_hmac.specs.Keys.{costing}
-use Rattle.drbg_hmac.proofs.Updates.{same-metered}
+use Rattle.drbg_shared.specs.Costs.{costing}
+use Rattle.drbg_shared.proofs.Metered.{same-metered}
 
 -- §10.3.1: 55 bytes are two turns
 pub hashDf-two : (input : List ℕ) {one two : Digest} {bytes : List ℕ}

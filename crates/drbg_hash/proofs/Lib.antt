@@ -2,3 +2,5 @@
 pub mod Limbs
 pub mod Carries
 pub mod Derivations
+pub mod Turns
+pub mod Standing

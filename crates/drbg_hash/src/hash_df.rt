@@ -1,5 +1,5 @@
 // SP 800-90A §10.3.1: Hash_df for 55 bytes, which are two hashes.
-use drbg_hmac::joined;
+use drbg_shared::joined;
 use sha256::running::Digest;
 ghost use mathlib.Core.Path.{_≡_};
 ghost use mathlib.Core.List.{_∷_, _++_};

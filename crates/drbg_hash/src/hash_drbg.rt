@@ -1,8 +1,8 @@
 // SP 800-90A §10.1.1: Hash_DRBG over SHA-256.
 use crate::hash_df;
 use crate::sums;
-use drbg_hmac::joined;
-use drbg_hmac::output;
+use drbg_shared::joined;
+use drbg_shared::output;
 use sha256::digest;
 use sha256::rounds;
 ghost use mathlib.Core.Path.{_≡_};
@@ -13,7 +13,7 @@ ghost use Rattle.standard.specs.Strings.{ceiling};
 ghost use Rattle.standard.specs.Hash.{compressed, digest, hash};
 ghost use Rattle.standard.specs.HashDrbg.{seeded, refreshed, hashgen, hashgenTurns};
 ghost use Rattle.standard.specs.Sha256.{sha256};
-ghost use Rattle.drbg_hmac.specs.Keys.{costing};
+ghost use Rattle.drbg_shared.specs.Costs.{costing};
 ghost use Rattle.drbg_hash.specs.Limbs.{stringOf, valueIn, Marked};
 ghost use Rattle.drbg_hash.specs.Seeds.{seedOf, valueOf, stateWith};
 

@@ -1,9 +1,8 @@
 // FIPS 198-1: HMAC under a key of 32 bytes.
-use crate::joined;
+use drbg_shared::joined;
 use sha256::digest;
 use sha256::rounds;
 use sha256::running::Digest;
-use sha256::running::Running;
 ghost use mathlib.Core.Path.{_≡_};
 ghost use mathlib.Core.List.{_∷_, _++_};
 ghost use Prim.Native.Nat.{_≤_};
@@ -12,7 +11,8 @@ ghost use Rattle.standard.specs.Hash.{padding, hash};
 ghost use Rattle.standard.specs.Hmac.{xored, filled, hmac};
 ghost use Rattle.standard.specs.Sha256.{sha256};
 ghost use Rattle.sha256.specs.Values.{digestOf};
-ghost use Rattle.drbg_hmac.specs.Keys.{ready, costing};
+ghost use Rattle.drbg_shared.specs.Costs.{costing};
+ghost use Rattle.drbg_hmac.specs.Keys.{ready};
 
 // Table 1, steps 4 and 7: the key, zeros behind it, each byte xored with the pad's.
 fn pad_block(key: [u8; 32], pad: u8) -> [u8; 64]

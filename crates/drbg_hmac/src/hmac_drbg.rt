@@ -1,6 +1,6 @@
 // SP 800-90A §10.1.2: HMAC_DRBG over SHA-256.
 use crate::hmac;
-use crate::output;
+use drbg_shared::output;
 ghost use mathlib.Core.Path.{_≡_};
 ghost use mathlib.Core.List.{_++_};
 ghost use Prim.Native.Nat.{_+_, _≤_};

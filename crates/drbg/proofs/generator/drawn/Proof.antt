@@ -6,8 +6,8 @@ use lib.ListN.{length}
 use borrow.Author.Tests.{eq-eqb, ne-eqb}
 use Rattle.standard.specs.Functions.{Hash-DRBG, draw}
 use Rattle.standard.specs.Sha256.{sha256}
-use Rattle.drbg.specs.Generator.{Filled, stateOf, filled}
-use Rattle.drbg.specs.declared.generator.Generator.{Generator}
+use Rattle.drbg_shared.specs.Generator.{Filled, stateOf, filled}
+use Rattle.drbg_shared.specs.declared.generator.Generator.{Generator}
 use borrow.Author.Needs.{needs}
 use Rattle.drbg.proofs.generator.drawn.Statement.{statement}
 use Rattle.drbg.proofs.generator.drawn.Tie as tie

@@ -3,8 +3,9 @@ use mathlib.Core.Path.{_≡_, ap, _∙_}
 use native.Mathlib.Omega.{arith}
 use Rattle.standard.specs.Sha256.{sha256}
 use Rattle.standard.proofs.Lengths.{counter-reseeding}
-use Rattle.drbg.specs.Generator.{mechanismOf, stateOf, served, standing}
-use Rattle.drbg.proofs.Standing.{fresh-drawn}
+use Rattle.drbg_shared.specs.Generator.{stateOf, served, standing}
+use Rattle.drbg.specs.Mechanism.{mechanismOf}
+use Rattle.drbg.proofs.Fresh.{fresh-drawn}
 use borrow.Author.Needs.{needs}
 use Rattle.drbg.proofs.generator.fresh_drawn.Statement.{statement}
 use Rattle.drbg.proofs.generator.fresh_drawn.Tie as tie

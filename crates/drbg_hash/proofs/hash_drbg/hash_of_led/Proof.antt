@@ -6,9 +6,9 @@ use lib.ListN.{set, replicate}
 use Rattle.standard.specs.Hash.{compressed, digest}
 use Rattle.standard.specs.Sha256.{sha256}
 use Rattle.sha256.specs.Values.{eightOf}
-use Rattle.drbg_hmac.specs.Keys.{costing}
+use Rattle.drbg_shared.specs.Costs.{costing}
 use Rattle.copies.proofs.Pasted.{pasted}
-use Rattle.drbg_hmac.proofs.Short.{hash-of-led, filling, ending}
+use Rattle.drbg_shared.proofs.Short.{hash-of-led, filling, ending}
 use borrow.Author.Needs.{needs}
 use Rattle.drbg_hash.proofs.hash_drbg.hash_of_led.Statement.{statement}
 use Rattle.drbg_hash.proofs.hash_drbg.hash_of_led.Tie as tie

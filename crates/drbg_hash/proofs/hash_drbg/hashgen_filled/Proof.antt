@@ -12,13 +12,14 @@ use Rattle.standard.specs.HashDrbg.{hashgen, hashgenTurns, stepped}
 use Rattle.standard.specs.Sha256.{sha256}
 use Rattle.standard.proofs.Counts.{hashgenTurns-blocks}
 use Rattle.standard.proofs.Lengths.{length-hashgenTurns}
-use Rattle.drbg_hmac.proofs.Outputs.{turn-stored, turns-are, hashgen-more}
-use Rattle.drbg_hmac.specs.Keys.{costing}
+use Rattle.drbg_shared.proofs.Outputs.{turn-stored, turns-are}
+use Rattle.drbg_hash.proofs.Turns.{hashgen-more}
+use Rattle.drbg_shared.specs.Costs.{costing}
 use Rattle.drbg_hash.specs.Limbs.{stringOf, valueIn}
 use Rattle.drbg_hash.proofs.Carries.{one-more}
 use Rattle.drbg_hash.proofs.Limbs.{length-stringOf, length-valueIn, value-behind}
-use Rattle.drbg_hmac.proofs.Short.{hash-of-one, padded-55}
-use Rattle.drbg_hmac.proofs.Updates.{same-metered}
+use Rattle.drbg_shared.proofs.Short.{hash-of-one, padded-55}
+use Rattle.drbg_shared.proofs.Metered.{same-metered}
 use borrow.Author.Needs.{needs}
 use Rattle.drbg_hash.proofs.hash_drbg.hashgen_filled.Statement.{statement}
 use Rattle.drbg_hash.proofs.hash_drbg.hashgen_filled.Tie as tie

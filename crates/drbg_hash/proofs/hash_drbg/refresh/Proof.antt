@@ -10,9 +10,9 @@ use Rattle.standard.specs.HashDrbg.{refreshed, stepped}
 use Rattle.standard.specs.Sha256.{sha256}
 use Rattle.standard.proofs.Strings.{ifNull-nil, ifNull-some}
 use Rattle.sha256.specs.Values.{digestOf}
-use Rattle.drbg_hmac.specs.Keys.{costing}
+use Rattle.drbg_shared.specs.Costs.{costing}
 use Rattle.drbg_hash.proofs.Carries.{sum-alone}
-use Rattle.drbg_hmac.proofs.Updates.{empty}
+use Rattle.drbg_shared.proofs.Metered.{empty}
 use borrow.Author.Needs.{needs}
 use Rattle.drbg_hash.proofs.hash_drbg.refresh.Statement.{statement}
 use Rattle.drbg_hash.proofs.hash_drbg.refresh.Tie as tie

@@ -6,7 +6,7 @@ use Rattle.standard.specs.Strings.{numberOf, bytesOf}
 use Rattle.standard.specs.Hash.{hash}
 use Rattle.standard.specs.HashDrbg.{stepped}
 use Rattle.standard.specs.Sha256.{sha256}
-use Rattle.drbg_hmac.specs.Keys.{costing}
+use Rattle.drbg_shared.specs.Costs.{costing}
 use Rattle.drbg_hash.specs.Seeds.{stateWith}
 use borrow.Author.Needs.{needs}
 use Rattle.drbg_hash.proofs.hash_drbg.step.Statement.{statement}

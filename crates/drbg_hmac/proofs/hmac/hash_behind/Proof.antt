@@ -4,8 +4,8 @@ use native.Mathlib.Omega.{arith}
 use Rattle.standard.specs.Hash.{compressed, digest}
 use Rattle.standard.specs.Sha256.{sha256}
 use Rattle.sha256.specs.Values.{eightOf}
-use Rattle.drbg_hmac.specs.Keys.{costing}
-use Rattle.drbg_hmac.proofs.Short.{hash-of-two}
+use Rattle.drbg_shared.specs.Costs.{costing}
+use Rattle.drbg_shared.proofs.Short.{hash-of-two}
 use borrow.Author.Needs.{needs}
 use Rattle.drbg_hmac.proofs.hmac.hash_behind.Statement.{statement}
 use Rattle.drbg_hmac.proofs.hmac.hash_behind.Tie as tie

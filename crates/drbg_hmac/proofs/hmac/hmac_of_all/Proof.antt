@@ -1,5 +1,4 @@
 -- The inner hash, then the outer one. Assumes nothing.
-use Prim.Native.Nat.{_+_}
 use mathlib.Core.Path.{_≡_, sym, ap, _∙_}
 use mathlib.Core.List.{_∷_, _++_, append-assoc}
 use native.Mathlib.Omega.{arith}

@@ -8,7 +8,8 @@ use Rattle.standard.specs.Sha256.{sha256}
 use Rattle.standard.proofs.Lengths.{length-hmac}
 use Rattle.drbg_hmac.specs.Keys.{half}
 use Rattle.drbg_hmac.proofs.Pads.{key-ready}
-use Rattle.drbg_hmac.proofs.Updates.{hmac-count, same-metered}
+use Rattle.drbg_shared.proofs.Metered.{same-metered}
+use Rattle.drbg_hmac.proofs.Updates.{hmac-count}
 use borrow.Author.Needs.{needs}
 use Rattle.drbg_hmac.proofs.hmac_drbg.half_update.Statement.{statement}
 use Rattle.drbg_hmac.proofs.hmac_drbg.half_update.Tie as tie

@@ -11,8 +11,9 @@ use Rattle.standard.specs.Sha256.{sha256}
 use Rattle.standard.proofs.Counts.{outputTurns-blocks}
 use Rattle.standard.proofs.Lengths.{length-outputTurns, length-filled}
 use Rattle.drbg_hmac.specs.Keys.{ready}
-use Rattle.drbg_hmac.proofs.Outputs.{turn-stored, turns-are, output-more}
-use Rattle.drbg_hmac.proofs.Updates.{same-metered}
+use Rattle.drbg_shared.proofs.Outputs.{turn-stored, turns-are}
+use Rattle.drbg_hmac.proofs.Turns.{output-more}
+use Rattle.drbg_shared.proofs.Metered.{same-metered}
 use borrow.Author.Needs.{needs}
 use Rattle.drbg_hmac.proofs.hmac_drbg.output_filled.Statement.{statement}
 use Rattle.drbg_hmac.proofs.hmac_drbg.output_filled.Tie as tie

@@ -8,7 +8,7 @@ use Rattle.standard.specs.HmacDrbg.{update}
 use Rattle.standard.specs.Sha256.{sha256}
 use Rattle.standard.proofs.Strings.{ifNull-nil, ifNull-some}
 use Rattle.drbg_hmac.specs.Keys.{keyed}
-use Rattle.drbg_hmac.proofs.Updates.{empty}
+use Rattle.drbg_shared.proofs.Metered.{empty}
 use borrow.Author.Needs.{needs}
 use Rattle.drbg_hmac.proofs.hmac_drbg.refreshed.Statement.{statement}
 use Rattle.drbg_hmac.proofs.hmac_drbg.refreshed.Tie as tie
