@@ -14,8 +14,9 @@ use Rattle.standard.specs.Lengths.{Sized, stateBytes}
 use Rattle.standard.proofs.Lengths.{sized-opening, sized-reseeding, sized-draw, sized-freshDraw}
 use Rattle.standard.proofs.Lengths.{counter-opening, counter-reseeding, counter-freshDraw}
 use Rattle.standard.proofs.Bound.{bounded}
-use Rattle.drbg.specs.Generator.{mechanismOf, standing, served, filled}
-use Rattle.drbg.proofs.Standing.{stateOf-standing}
+use Rattle.drbg_shared.specs.Generator.{standing, served, filled}
+use Rattle.drbg.specs.Mechanism.{mechanismOf}
+use Rattle.drbg_shared.proofs.Standing.{stateOf-standing}
 use Rattle.slots.specs.Layout.{slotAt, withSlot, lastSerial, Table}
 use Rattle.slots.specs.Sound.{sound}
 use Rattle.slots.specs.Handle.{handleOf, slotOf, lookUp, named, lowestFree}

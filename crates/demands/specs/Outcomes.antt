@@ -4,7 +4,7 @@ use mathlib.Core.List.{List, [], _∷_}
 use Prim.Native.Nat.{ℕ, _+_, _-_, _%_}
 use lib.ListN.{length}
 use Rattle.standard.specs.State.{State}
-use Rattle.drbg.specs.Generator.{standing}
+use Rattle.drbg_shared.specs.Generator.{standing}
 use Rattle.slots.specs.Layout.{freeSlot, withSlot, lastSerial}
 use Rattle.slots.specs.Handle.{handleOf, slotOf, lowestFree}
 use Rattle.slots.specs.declared.slot.Slot.{Slot}

@@ -5,7 +5,7 @@ use Prim.Native.Nat.{ℕ, zero, suc, _%_, _^_, _<_}
 use native.Mathlib.Omega.{arith}
 use borrow.Author.Tests.{not-true, not-false, eq-eqb, ne-eqb}
 use lib.Dec.{eqb, eqb·suc-zero}
-use Rattle.drbg.specs.declared.generator.Generator.{Generator}
+use Rattle.drbg_shared.specs.declared.generator.Generator.{Generator}
 use Rattle.slots.specs.Layout.{lastSerial, slotAt, Table}
 use Rattle.slots.specs.Sound.{sound}
 use Rattle.slots.specs.Handle.{slotOf, lookUp, named}

@@ -3,9 +3,9 @@ use Prim.Native.Nat.{ℕ}
 use mathlib.Core.Bool.{Bool, cond}
 use mathlib.Core.List.{List}
 use lib.Dec.{eqb}
-use Rattle.drbg.specs.Generator.{Filled}
-use Rattle.drbg.specs.declared.generator.Generator.{Generator}
-use Rattle.drbg.specs.declared.generator.Served.{Served}
+use Rattle.drbg_shared.specs.Generator.{Filled}
+use Rattle.drbg_shared.specs.declared.generator.Generator.{Generator}
+use Rattle.drbg_shared.specs.declared.generator.Served.{Served}
 use Rattle.slots.specs.Layout.{slotAt, withSlot, withLastSerial}
 use Rattle.slots.specs.Handle.{handleOf}
 use Rattle.slots.specs.declared.slot.Slot.{Slot}
