@@ -33,7 +33,8 @@ stored-more out temp w at inside size whole so-far = go (decLe (at + 32) (length
     go (no short) =
         let least : min 32 (length out - at) ≡ length out - at = omega (arith, short) in
         let nothing : length out ≤ at + (length out - at) = omega arith in
-        let long : length (paste out at w (length out - at)) ≤ at + 32 = rw (length-paste out at w (length out - at) (omega arith) (omega arith)) (omega (arith, short)) in
+        let long : length (paste out at w (length out - at)) ≤ at + 32 =
+        rw (length-paste out at w (length out - at) (omega arith) (omega arith)) (omega (arith, short)) in
         rw least (take-all (at + 32) (paste out at w (length out - at)) long) ∙
         ap₂ _++_ (ap (λ p. p ++ take (length out - at) w) front) (drop-of-length-le out nothing) ∙
         append-nil _ ∙

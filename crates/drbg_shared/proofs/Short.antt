@@ -42,7 +42,8 @@ padded-55 m s s-is =
     ap (λ p. m ++ p) (sym padding-55)
 
 -- the last block of a message of 55 bytes
-pub hash-of-one : (m : List ℕ) → length m ≡ 55 → hash sha256 m ≡ costing 1 (digest sha256 (compressed sha256 (sha256 .initial) (m ++ padding sha256 55)))
+pub hash-of-one : (m : List ℕ) → length m ≡ 55
+    → hash sha256 m ≡ costing 1 (digest sha256 (compressed sha256 (sha256 .initial) (m ++ padding sha256 55)))
 unfolding absorbed blockAt
 hash-of-one m size =
     let long : length (m ++ padding sha256 55) ≡ 64 = length-append m (padding sha256 55) ∙ omega (arith, length-padding-55) in
@@ -50,7 +51,8 @@ hash-of-one m size =
     ap (λ b. costing 1 (digest sha256 (compressed sha256 (sha256 .initial) b))) (take-all 64 (m ++ padding sha256 55) (le-of-eq long))
 
 -- a message whose padding makes two blocks of it
-two-blocks : (m b₀ b₁ : List ℕ) (n : ℕ) → length m ≡ n → (n + 8) / 64 + 1 ≡ 2 → m ++ padding sha256 n ≡ b₀ ++ b₁ → length b₀ ≡ 64 → length b₁ ≡ 64
+two-blocks : (m b₀ b₁ : List ℕ) (n : ℕ) → length m ≡ n → (n + 8) / 64 + 1 ≡ 2 → m ++ padding sha256 n ≡ b₀ ++ b₁
+    → length b₀ ≡ 64 → length b₁ ≡ 64
     → hash sha256 m ≡ costing 2 (digest sha256 (compressed sha256 (compressed sha256 (sha256 .initial) b₀) b₁))
 unfolding absorbed blockAt
 two-blocks m b₀ b₁ n size count whole first-size last-size =
@@ -60,10 +62,12 @@ two-blocks m b₀ b₁ n size count whole first-size last-size =
     (ap (λ p. take 64 (drop 64 p)) whole ∙ ap (take 64) (drop-at b₀ b₁ 64 first-size) ∙ take-all 64 b₁ (le-of-eq last-size))
 
 pub hash-of-two : (pad v : List ℕ) → length pad ≡ 64 → length v ≡ 32
-    → hash sha256 (pad ++ v) ≡ costing 2 (digest sha256 (compressed sha256 (compressed sha256 (sha256 .initial) pad) (v ++ padding sha256 96)))
+    → hash sha256 (pad ++ v)
+    ≡ costing 2 (digest sha256 (compressed sha256 (compressed sha256 (sha256 .initial) pad) (v ++ padding sha256 96)))
 hash-of-two pad v pad-size v-size =
     let long : length (v ++ padding sha256 96) ≡ 64 = length-append v (padding sha256 96) ∙ omega (arith, length-padding-96) in
-    two-blocks (pad ++ v) pad (v ++ padding sha256 96) 96 (length-append pad v ∙ omega arith) refl (append-assoc pad v (padding sha256 96)) pad-size long
+    let both : length (pad ++ v) ≡ 96 = length-append pad v ∙ omega arith in
+    two-blocks (pad ++ v) pad (v ++ padding sha256 96) 96 both refl (append-assoc pad v (padding sha256 96)) pad-size long
 
 -- 56 bytes leave no room for their length
 abbrev pub filling : List ℕ

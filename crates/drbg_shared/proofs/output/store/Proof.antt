@@ -1,4 +1,4 @@
--- What fits of w. Assumes nothing.
+-- The copy of the first n bytes of w is w pasted for n bytes, and n is what fits. Assumes nothing.
 use mathlib.Core.Path.{sym, ap, _∙_}
 use native.Mathlib.Omega.{arith}
 use lib.Seq.{length-take-le, paste}
@@ -8,19 +8,25 @@ use Rattle.drbg_shared.proofs.output.store.Statement.{statement}
 use Rattle.drbg_shared.proofs.output.store.Tie as tie
 
 slice-aggregate-copy : tie.Need-slice-aggregate-copy
-slice-aggregate-copy c = sym (length-take-le (c .before .before .least .result) (c .before .before .before .before .args .t3) (omega arith))
+slice-aggregate-copy c =
+    let n = c .before .before .least .result in
+    sym (length-take-le n (c .before .before .before .before .args .t3) (omega arith))
 
 copy-requires : tie.Need-copy-requires
 copy-requires c κs =
-    let part = length-take-le (c .before .before .least .result) (c .before .before .before .before .args .t3) (omega arith) in
-    omega (arith, part)
+    let n = c .before .before .least .result in
+    omega (arith, length-take-le n (c .before .before .before .before .args .t3) (omega arith))
 
 returns : tie.Need-returns
 returns c =
-    let a = c .before .before .before .before .before .before .before .args in
-    c .before .before .copy .ensures ∙
-    pasted-part (a .out .now) (a .t3) (a .at) (c .before .before .before .before .before .least .result) (omega arith) ∙
-    ap (paste (a .out .now) (a .at) (a .t3)) (c .before .before .before .before .before .least .ensures)
+    let copied = c .before .before in
+    let fits = copied .before .before .before in
+    let a = fits .before .before .args in
+    copied .copy .ensures ∙
+    pasted-part (a .out .now) (a .t3) (a .at) (fits .least .result) (omega arith) ∙
+    ap (paste (a .out .now) (a .at) (a .t3)) (fits .least .ensures)
 
 pub store-spec : {M : Type 1} → statement M
-store-spec = tie.close (tie.spec (λ c. search needs) (λ c κs. search needs) (λ c. search needs) slice-aggregate-copy copy-requires (λ c. search needs) returns)
+store-spec =
+    tie.close
+    (tie.spec (λ c. search needs) (λ c κs. search needs) (λ c. search needs) slice-aggregate-copy copy-requires (λ c. search needs) returns)
