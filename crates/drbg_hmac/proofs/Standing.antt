@@ -1,4 +1,4 @@
--- Working states as they stand in a slot. Assumes nothing.
+-- HMAC_DRBG's states as they stand in a slot, and its draw from its parts. Assumes nothing.
 use mathlib.Core.Path.{_≡_, refl, sym, ap, _∙_}
 use mathlib.Core.List.{List}
 use Prim.Native.Nat.{ℕ, _+_, _≤_}
@@ -41,7 +41,7 @@ taken-ready s size = rw (key-ready (s .first) size)
 -- HMAC_DRBG's draw, put together from its parts
 module _ (s : State) (n : ℕ) (additional : List ℕ) (begun last : Updated) (output : Output) (out : List ℕ)
     (K-size : length (s .first) ≡ 32)
-    (begun-is : updatedOf begun ≡ ifNull additional (return (keyed (s .first) (s .second))) (update sha256 additional (keyed (s .first) (s .second))))
+    (begun-is : let u = keyed (s .first) (s .second) in updatedOf begun ≡ ifNull additional (return u) (update sha256 additional u))
     (output-is : outputOf output out ≡ drawnOut (outputTurns sha256 (ready (begun .key)) (begun .v) (ceiling n 32)) n)
     (last-is : updatedOf last ≡ update sha256 additional (keyed (begun .key) (output .v))) where
   pub drawn-hmac : draw sha256 HMAC-DRBG s n additional
@@ -51,15 +51,18 @@ module _ (s : State) (n : ℕ) (additional : List ℕ) (begun last : Updated) (o
       }
   unfolding generate
   drawn-hmac =
-      let out-is : take n (outputTurns sha256 (ready (begun .key)) (begun .v) (ceiling n 32) .value .0) ≡ out = sym (ap (λ (m : Metered (List ℕ × List ℕ)). m .value .0) output-is) in
-      let v-is : outputTurns sha256 (ready (begun .key)) (begun .v) (ceiling n 32) .value .1 ≡ output .v = sym (ap (λ (m : Metered (List ℕ × List ℕ)). m .value .1) output-is) in
-      let cost : outputTurns sha256 (ready (begun .key)) (begun .v) (ceiling n 32) .blocks ≡ output .blocks = sym (ap (λ (m : Metered (List ℕ × List ℕ)). m .blocks) output-is) in
-      rw (taken-ready s K-size, ← begun-is, out-is, v-is, cost, ← last-is) (same-metered refl (summed (begun .blocks) (output .blocks) (last .blocks)))
+      let turns = outputTurns sha256 (ready (begun .key)) (begun .v) (ceiling n 32) in
+      let out-is : take n (turns .value .0) ≡ out = sym (ap (λ (m : Metered (List ℕ × List ℕ)). m .value .0) output-is) in
+      let v-is : turns .value .1 ≡ output .v = sym (ap (λ (m : Metered (List ℕ × List ℕ)). m .value .1) output-is) in
+      let cost : turns .blocks ≡ output .blocks = sym (ap (λ (m : Metered (List ℕ × List ℕ)). m .blocks) output-is) in
+      rw (taken-ready s K-size, ← begun-is, out-is, v-is, cost, ← last-is)
+      (same-metered refl (summed (begun .blocks) (output .blocks) (last .blocks)))
     where
       summed : (a b c : ℕ) → 0 + (a + (b + (c + 0))) ≡ a + b + c
       summed a b c = omega arith
 
-  pub served-hmac : (r : Served) (all : Updated) → all ≡ record { key = last .key; v = last .v; blocks = begun .blocks + output .blocks + last .blocks }
+  pub served-hmac : (r : Served) (all : Updated)
+      → all ≡ record { key = last .key; v = last .v; blocks = begun .blocks + output .blocks + last .blocks }
       → r ≡ keptHmac all (s .counter + 1) → record { served = r; output = out } ≡ filled (draw sha256 HMAC-DRBG s n additional)
   unfolding filled keptHmac standing
   served-hmac r all all-is r-is =

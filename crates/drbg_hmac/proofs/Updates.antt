@@ -43,7 +43,8 @@ pub update-some : (d : List ℕ) (u w : Keyed) (n : ℕ) → 0 < length d → ha
     → update sha256 d u ≡ record { value = half 0x01 d w .value; blocks = n + half 0x01 d w .blocks }
 update-some d u w n some once = update-halves d u ∙ rw (once, ifNull-some d (return w) (half 0x01 d w) some)
 
-pub half-sized : (separator : ℕ) (d : List ℕ) (u : Keyed) (K v : List ℕ) (n : ℕ) → record { value = keyed K v; blocks = n } ≡ half separator d u
+pub half-sized : (separator : ℕ) (d : List ℕ) (u : Keyed) (K v : List ℕ) (n : ℕ)
+    → record { value = keyed K v; blocks = n } ≡ half separator d u
     → (length K ≡ 32) × (length v ≡ 32)
 unfolding half
 half-sized separator d u K v n e = (

@@ -29,6 +29,7 @@ fn front_of(f: [u8; 55]) -> [u8; 32]
     s
 }
 
+// Key and V as a generator, with the blocks that were consumed for them.
 fn hmac_served(u: Updated, counter: u64) -> Served
     ensures { λ r. ⌜ r ≡ keptHmac u counter ⌝ }
 {
@@ -45,9 +46,11 @@ fn hmac_served(u: Updated, counter: u64) -> Served
     }
 }
 
+// §10.1.2.3: Key starts as zeros, V as 32 bytes 01.
 pub fn hmac_opened<'a>(entropy: &'a [u8], nonce: &'a [u8], personalization: &'a [u8]) -> Served
     requires { ⌜ (length (now entropy) ≤ 1024) × (length (now nonce) ≤ 64) × (length (now personalization) ≤ 512) ⌝ }
-    ensures { λ r. ⌜ r ≡ served (opening sha256 HMAC-DRBG (now (entropy .entry)) (now (nonce .entry)) (now (personalization .entry))) ⌝ }
+    ensures { λ r. ⌜ r
+        ≡ served (opening sha256 HMAC-DRBG (now (entropy .entry)) (now (nonce .entry)) (now (personalization .entry))) ⌝ }
 {
     hmac_served(
         hmac_drbg::update_all([0u8; 32], [1u8; 32], entropy, nonce, personalization),
@@ -55,9 +58,11 @@ pub fn hmac_opened<'a>(entropy: &'a [u8], nonce: &'a [u8], personalization: &'a 
     )
 }
 
+// §10.1.2.4
 pub fn hmac_reseeded<'a>(g: Generator, entropy: &'a [u8], additional: &'a [u8]) -> Served
     requires { ⌜ (length (now entropy) ≤ 1024) × (length (now additional) ≤ 1024) ⌝ }
-    ensures is { λ r. ⌜ r ≡ served (reseeding sha256 HMAC-DRBG (stateOf HMAC-DRBG g) (now (entropy .entry)) (now (additional .entry))) ⌝ }
+    ensures is { λ r. ⌜ r
+        ≡ served (reseeding sha256 HMAC-DRBG (stateOf HMAC-DRBG g) (now (entropy .entry)) (now (additional .entry))) ⌝ }
     ensures few { λ r. ⌜ r .blocks ≤ 8288 ⌝ }
 {
     let first = g.first;
@@ -69,9 +74,11 @@ pub fn hmac_reseeded<'a>(g: Generator, entropy: &'a [u8], additional: &'a [u8]) 
     )
 }
 
+// §10.1.2.5
 pub fn hmac_drawn(g: Generator, out: &mut [u8], additional: &[u8]) -> Served
     requires { ⌜ (length (now out) ≤ 65536) × (length (now additional) ≤ 1024) × (g .counter < 2 ^ 63) ⌝ }
-    ensures is { λ r. ⌜ record { served = r; output = now (out .exit) } ≡ filled (draw sha256 HMAC-DRBG (stateOf HMAC-DRBG g) (length (now (out .entry))) (now (additional .entry))) ⌝ }
+    ensures is { λ r. ⌜ record { served = r; output = now (out .exit) }
+        ≡ filled (draw sha256 HMAC-DRBG (stateOf HMAC-DRBG g) (length (now (out .entry))) (now (additional .entry))) ⌝ }
     ensures few { λ r. ⌜ r .blocks ≤ 8288 ⌝ }
 {
     let first = g.first;
@@ -83,6 +90,7 @@ pub fn hmac_drawn(g: Generator, out: &mut [u8], additional: &[u8]) -> Served
     let w = output.v;
     let none = &additional[..0];
     let last = hmac_drbg::update_all(key, w, additional, none, none);
+    let counter = g.counter;
     let counted = hmac_drbg::with_blocks(last, begun.blocks + output.blocks);
-    hmac_served(counted, g.counter + 1)
+    hmac_served(counted, counter + 1)
 }

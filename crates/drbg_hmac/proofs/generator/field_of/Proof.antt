@@ -1,4 +1,4 @@
--- Assumes nothing.
+-- Zeros stand in the field from the start, and 32 bytes are copied before the last 23. Assumes nothing.
 use mathlib.Core.Path.{_∙_}
 use native.Mathlib.Omega.{arith}
 use lib.ListN.{replicate}

@@ -1,4 +1,4 @@
--- Assumes nothing.
+-- A copy of the first 32 bytes, over all that stood there. Assumes nothing.
 use mathlib.Core.Path.{sym, _∙_}
 use mathlib.Core.List.{append-nil}
 use native.Mathlib.Omega.{arith}

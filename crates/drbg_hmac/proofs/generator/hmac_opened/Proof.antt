@@ -1,4 +1,4 @@
--- An update of the first Key and V. Assumes nothing.
+-- An update of the first Key, which is made ready at no cost, and the first V. Assumes nothing.
 use mathlib.Core.Path.{refl, sym, _∙_}
 use mathlib.Core.List.{_++_}
 use native.Mathlib.Nat.{add-zero, zero-add}
@@ -15,9 +15,12 @@ use Rattle.drbg_hmac.proofs.generator.hmac_opened.Tie as tie
 returns : tie.Need-returns
 unfolding instantiate served
 returns c =
-    let a = c .before .before .before .before .before .args in
+    let updated = c .before in
+    let a = updated .before .before .before .before .args in
+    let seed = a .entropy .now ++ (a .nonce .now ++ a .personalization .now) in
+    let first = keyed (replicate 32 0) (replicate 32 1) in
     c .hmac-served .ensures ∙
-    kept-update (a .entropy .now ++ (a .nonce .now ++ a .personalization .now)) (keyed (replicate 32 0) (replicate 32 1)) (c .before .update-all .result) 1 (c .before .update-all .ensures) ∙
+    kept-update seed first (updated .update-all .result) 1 (updated .update-all .ensures) ∙
     sym (rw (key-ready (replicate 32 0) refl, zero-add, add-zero))
 
 pub hmac-opened-spec : {M : Type 1} → statement M

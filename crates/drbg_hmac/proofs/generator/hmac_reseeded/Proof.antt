@@ -1,6 +1,6 @@
--- An update of the generator's own Key and V. Assumes nothing.
+-- An update of the Key and V that stand in the slot. It is within the bound since the strings are.
 use mathlib.Core.Path.{_≡_, sym, ap, _∙_}
-use mathlib.Core.List.{_++_, append-nil}
+use mathlib.Core.List.{[], _++_, append-nil}
 use native.Mathlib.Nat.{add-zero, zero-add}
 use native.Mathlib.Omega.{arith}
 use lib.ListN.{length}
@@ -19,22 +19,29 @@ use Rattle.drbg_hmac.proofs.generator.hmac_reseeded.Tie as tie
 returns : tie.Need-returns
 unfolding reseed served stateOf
 returns c =
-    let a = c .before .before .before .before .before .before .before .before .before .args in
-    let first = c .before .before .before .front-of in
-    let second = c .before .before .front-of2 in
+    let updated = c .before in
+    let second = updated .before .front-of2 in
+    let first = updated .before .before .front-of in
+    let start = updated .before .before .before .before .before .before .before .before in
+    let a = start .args in
     let size : length (first .result) ≡ 32 = omega arith in
     let size₂ : length (second .result) ≡ 32 = omega arith in
     let state : State = record { first = first .result; second = second .result; counter = a .g .counter } in
-    let updated : updatedOf (c .before .update-all .result) ≡ update sha256 (a .entropy .now ++ a .additional .now) (keyed (first .result) (second .result)) =
-    c .before .update-all .ensures ∙
-    ap (λ d. update sha256 (a .entropy .now ++ d) (keyed (first .result) (second .result))) (append-nil (a .additional .now)) in
+    let own = keyed (first .result) (second .result) in
+    let joined : a .entropy .now ++ (a .additional .now ++ []) ≡ a .entropy .now ++ a .additional .now =
+    ap (λ d. a .entropy .now ++ d) (append-nil (a .additional .now)) in
+    let read : updatedOf (updated .update-all .result) ≡ update sha256 (a .entropy .now ++ (a .additional .now ++ [])) own =
+    updated .update-all .ensures in
     let is : c .hmac-served .result ≡ served (reseeding sha256 HMAC-DRBG state (a .entropy .now) (a .additional .now)) =
     c .hmac-served .ensures ∙
-    kept-update _ _ (c .before .update-all .result) 1 updated ∙
-    sym (rw (taken-ready state size, zero-add, add-zero)) in (
-      is ∙ rw (← first .ensures, ← second .ensures),
-      rw is (bounded HMAC-DRBG .reseeding state (a .entropy .now) (a .additional .now) (record { first = size; second = size₂ }) (omega (arith, c .before .before .before .before .before .before .before .before .before .pre)) (omega (arith, c .before .before .before .before .before .before .before .before .before .pre))),
-    )
+    kept-update _ own (updated .update-all .result) 1 (read ∙ ap (λ d. update sha256 d own) joined) ∙
+    sym (rw (taken-ready state size, zero-add, add-zero)) in
+    let bound =
+    bounded HMAC-DRBG .reseeding state (a .entropy .now) (a .additional .now) (record { first = size; second = size₂ })
+    (omega (arith, start .pre)) (omega (arith, start .pre)) in
+    (is ∙ rw (← first .ensures, ← second .ensures), rw is bound)
 
 pub hmac-reseeded-spec : {M : Type 1} → statement M
-hmac-reseeded-spec = tie.close (tie.spec (λ c. search needs) (λ c κs. search needs) (λ c κs. search needs) (λ c κs. search needs) (λ c κs. search needs) returns)
+hmac-reseeded-spec =
+    tie.close
+    (tie.spec (λ c. search needs) (λ c κs. search needs) (λ c κs. search needs) (λ c κs. search needs) (λ c κs. search needs) returns)

@@ -1,4 +1,4 @@
--- Assumes nothing.
+-- Key and V, each with its zeros. Assumes nothing.
 use Rattle.drbg_hmac.specs.Keys.{keptHmac}
 use borrow.Author.Needs.{needs}
 use Rattle.drbg_hmac.proofs.generator.hmac_served.Statement.{statement}
