@@ -1,6 +1,7 @@
 -- The copy of the first n bytes of w is w pasted for n bytes, and n is what fits. Assumes nothing.
-use mathlib.Core.Path.{sym, ap, _∙_}
+use mathlib.Core.Path.{_≡_, sym, ap, _∙_}
 use native.Mathlib.Omega.{arith}
+use lib.ListN.{length, take}
 use lib.Seq.{length-take-le, paste}
 use Rattle.copies.proofs.Pasted.{pasted-part}
 use borrow.Author.Needs.{needs}
@@ -8,9 +9,7 @@ use Rattle.drbg_shared.proofs.output.store.Statement.{statement}
 use Rattle.drbg_shared.proofs.output.store.Tie as tie
 
 slice-aggregate-copy : tie.Need-slice-aggregate-copy
-slice-aggregate-copy c =
-    let n = c .before .before .least .result in
-    sym (length-take-le n (c .before .before .before .before .args .t3) (omega arith))
+slice-aggregate-copy c = sym (length-take-le _ (c .before .before .before .before .args .t3) (omega arith))
 
 copy-requires : tie.Need-copy-requires
 copy-requires c κs =
@@ -19,11 +18,13 @@ copy-requires c κs =
 
 returns : tie.Need-returns
 returns c =
-    let copied = c .before .before in
-    let fits = copied .before .before .before in
+    let done = c .before .before in
+    let fits = done .before .before .before in
     let a = fits .before .before .args in
-    copied .copy .ensures ∙
-    pasted-part (a .out .now) (a .t3) (a .at) (fits .least .result) (omega arith) ∙
+    let n = fits .least .result in
+    let copied : done .copy .last .0 ≡ paste (a .out .now) (a .at) (take n (a .t3)) (length (take n (a .t3))) = done .copy .ensures in
+    copied ∙
+    pasted-part (a .out .now) (a .t3) (a .at) n (omega arith) ∙
     ap (paste (a .out .now) (a .at) (a .t3)) (fits .least .ensures)
 
 pub store-spec : {M : Type 1} → statement M
