@@ -1,4 +1,4 @@
--- Assumes nothing.
+-- The seed from the caller's three strings; V and C fill their fields. Assumes nothing.
 use mathlib.Core.Path.{sym, _∙_}
 use Rattle.standard.specs.HashDrbg.{instantiate}
 use Rattle.drbg_shared.specs.Generator.{served, standing}
@@ -12,7 +12,8 @@ unfolding instantiate served standing
 returns c =
     let seed = c .before .before .before .seed-from in
     let sizes = c .hash-served .ensures .1 in
-    c .hash-served .ensures .0 ∙ sym (rw (← seed .ensures, field-55 (seed .result .v) (sizes .0), field-55 (seed .result .c) (sizes .1)))
+    c .hash-served .ensures .0 ∙
+    sym (rw (← seed .ensures, field-55 (seed .result .v) (sizes .0), field-55 (seed .result .c) (sizes .1)))
 
 pub hash-opened-spec : {M : Type 1} → statement M
-hash-opened-spec = tie.close (tie.spec (λ c κs. search needs) (λ c κs. search needs) returns)
+hash-opened-spec = tie.close (tie.spec (λ c. search needs) (λ c κs. search needs) (λ c κs. search needs) returns)

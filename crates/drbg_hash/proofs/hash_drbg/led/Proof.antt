@@ -5,8 +5,8 @@ use native.Mathlib.Omega.{arith}
 use lib.ListN.{replicate}
 use Rattle.copies.proofs.Pasted.{pasted}
 use borrow.Author.Needs.{needs}
-use Rattle.drbg_hash.proofs.hash_df.led.Statement.{statement}
-use Rattle.drbg_hash.proofs.hash_df.led.Tie as tie
+use Rattle.drbg_hash.proofs.hash_drbg.led.Statement.{statement}
+use Rattle.drbg_hash.proofs.hash_drbg.led.Tie as tie
 
 returns : tie.Need-returns
 returns c =
