@@ -1,4 +1,4 @@
--- Working states as they stand in a slot. Assumes nothing.
+-- A fresh draw from its reseed and its draw: the state that stands in the slot between them is the reseed's own. Assumes nothing.
 use mathlib.Core.Path.{_≡_, ap, _∙_}
 use mathlib.Core.List.{List, []}
 use Prim.Native.Nat.{ℕ, _+_}
@@ -20,7 +20,8 @@ unfolding freshDraw served filled
 fresh-drawn mechanism s n entropy additional seeded last out seeded-is drawn-is =
     let again = reseeding sha256 mechanism s entropy additional in
     let state-is : stateOf mechanism (seeded .generator) ≡ again .value =
-    ap (λ (r : Served). stateOf mechanism (r .generator)) seeded-is ∙ stateOf-standing mechanism (again .value) (sized-reseeding sha256 (lit< tt) mechanism s entropy additional) in
+    ap (λ (r : Served). stateOf mechanism (r .generator)) seeded-is ∙
+    stateOf-standing mechanism (again .value) (sized-reseeding sha256 (lit< tt) mechanism s entropy additional) in
     let drawn : record { served = last; output = out } ≡ filled (draw sha256 mechanism (again .value) n []) =
     drawn-is ∙ ap (λ (t : State). filled (draw sha256 mechanism t n [])) state-is in
     let cost = ap (λ (r : Served). r .blocks) seeded-is in

@@ -23,7 +23,8 @@ pub fn opened<'a>(
     personalization: &'a [u8],
 ) -> Served
     requires { ⌜ (length (now entropy) ≤ 1024) × (length (now nonce) ≤ 64) × (length (now personalization) ≤ 512) ⌝ }
-    ensures { λ r. ⌜ r ≡ served (opening sha256 (mechanismOf mechanism) (now (entropy .entry)) (now (nonce .entry)) (now (personalization .entry))) ⌝ }
+    ensures { λ r. ⌜ r
+        ≡ served (opening sha256 (mechanismOf mechanism) (now (entropy .entry)) (now (nonce .entry)) (now (personalization .entry))) ⌝ }
 {
     if mechanism == 1 {
         return hmac_opened(entropy, nonce, personalization);
@@ -34,7 +35,8 @@ pub fn opened<'a>(
 // §9.2, step 6.
 pub fn reseeded<'a>(mechanism: u8, g: Generator, entropy: &'a [u8], additional: &'a [u8]) -> Served
     requires { ⌜ (length (now entropy) ≤ 1024) × (length (now additional) ≤ 1024) ⌝ }
-    ensures is { λ r. ⌜ r ≡ served (reseeding sha256 (mechanismOf mechanism) (stateOf (mechanismOf mechanism) g) (now (entropy .entry)) (now (additional .entry))) ⌝ }
+    ensures is { λ r. ⌜ r ≡ served (reseeding sha256 (mechanismOf mechanism)
+        (stateOf (mechanismOf mechanism) g) (now (entropy .entry)) (now (additional .entry))) ⌝ }
     ensures few { λ r. ⌜ r .blocks ≤ 8288 ⌝ }
 {
     if mechanism == 1 {
@@ -46,15 +48,14 @@ pub fn reseeded<'a>(mechanism: u8, g: Generator, entropy: &'a [u8], additional: 
 // §9.3.1, step 8.
 pub fn drawn(mechanism: u8, g: Generator, out: &mut [u8], additional: &[u8]) -> Served
     requires { ⌜ (length (now out) ≤ 65536) × (length (now additional) ≤ 1024) × (g .counter < 2 ^ 63) ⌝ }
-    ensures is { λ r. ⌜ record { served = r; output = now (out .exit) } ≡ filled (draw sha256 (mechanismOf mechanism) (stateOf (mechanismOf mechanism) g) (length (now (out .entry))) (now (additional .entry))) ⌝ }
+    ensures is { λ r. ⌜ record { served = r; output = now (out .exit) } ≡ filled (draw sha256 (mechanismOf mechanism)
+        (stateOf (mechanismOf mechanism) g) (length (now (out .entry))) (now (additional .entry))) ⌝ }
     ensures few { λ r. ⌜ r .blocks ≤ 8288 ⌝ }
 {
     if mechanism == 1 {
         return hmac_drawn(g, out, additional);
     }
-    let first = g.first;
-    let second = g.second;
-    hash_drawn(first, second, g.counter, out, additional)
+    hash_drawn(g, out, additional)
 }
 
 // §9.3.1, steps 7 and 8.
@@ -66,7 +67,8 @@ pub fn fresh_drawn<'a>(
     additional: &'a [u8],
 ) -> Served
     requires { ⌜ (length (now out) ≤ 65536) × (length (now entropy) ≤ 1024) × (length (now additional) ≤ 1024) ⌝ }
-    ensures { λ r. ⌜ record { served = r; output = now (out .exit) } ≡ filled (freshDraw sha256 (mechanismOf mechanism) (stateOf (mechanismOf mechanism) g) (length (now (out .entry))) (now (entropy .entry)) (now (additional .entry))) ⌝ }
+    ensures { λ r. ⌜ record { served = r; output = now (out .exit) } ≡ filled (freshDraw sha256 (mechanismOf mechanism)
+        (stateOf (mechanismOf mechanism) g) (length (now (out .entry))) (now (entropy .entry)) (now (additional .entry))) ⌝ }
 {
     let seeded = reseeded(mechanism, g, entropy, additional);
     let next = seeded.generator;
