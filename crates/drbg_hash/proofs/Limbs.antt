@@ -48,7 +48,8 @@ module _ (l : List ℕ) (i : ℕ) (inside : i < length l) where
   numberOf-more small =
       ap numberOf stringOf-more ∙
       numberOf-append (stringOf (take i l)) (bytesOf 8 (getD l i 0)) ∙
-      ap₂ (λ n x. numberOf (stringOf (take i l)) * 256 ^ n + x) (length-bytesOf 8 (getD l i 0)) (numberOf-bytesOf 8 (getD l i 0) ∙ mod-eq-of-lt small)
+      ap₂ (λ n x. numberOf (stringOf (take i l)) * 256 ^ n + x) (length-bytesOf 8 (getD l i 0))
+      (numberOf-bytesOf 8 (getD l i 0) ∙ mod-eq-of-lt small)
 
   -- one limb more is read
   pub limbs-read : (whole : List ℕ) (x : ℕ) → bytesOf 8 x ≡ take 8 (drop (8 * i) whole) → stringOf (take i l) ≡ take (8 * i) whole
@@ -100,22 +101,31 @@ unfolding places
 places-all s i zero h = drop-of-length-le s {i = i} (omega arith)
 places-all s i (suc n) h = drop-cons s i 0 (omega arith) ∙ ap (λ r. getD s i 0 ∷ r) (places-all s (suc i) n (omega arith))
 
+-- the number that eight bytes are, the first the highest
+abbrev limb : (x₀ x₁ x₂ x₃ x₄ x₅ x₆ x₇ : ℕ) → ℕ
+limb x₀ x₁ x₂ x₃ x₄ x₅ x₆ x₇ =
+    x₀ * 72057594037927936 + x₁ * 281474976710656 + x₂ * 1099511627776 + x₃ * 4294967296 + x₄ * 16777216 + x₅ * 65536 + x₆ * 256 + x₇
+
 -- a limb from its eight bytes
 pub limb-read : (b : List ℕ) → length b ≡ 8 → {x₀ x₁ x₂ x₃ x₄ x₅ x₆ x₇ : ℕ}
-    → (x₀ ≡ getD b 0 0) × (x₀ < 256) → (x₁ ≡ getD b 1 0) × (x₁ < 256) → (x₂ ≡ getD b 2 0) × (x₂ < 256) → (x₃ ≡ getD b 3 0) × (x₃ < 256)
-    → (x₄ ≡ getD b 4 0) × (x₄ < 256) → (x₅ ≡ getD b 5 0) × (x₅ < 256) → (x₆ ≡ getD b 6 0) × (x₆ < 256) → (x₇ ≡ getD b 7 0) × (x₇ < 256)
-    → bytesOf 8 (x₀ * 72057594037927936 + x₁ * 281474976710656 + x₂ * 1099511627776 + x₃ * 4294967296 + x₄ * 16777216 + x₅ * 65536 + x₆ * 256 + x₇) ≡ b
+    → (x₀ ≡ getD b 0 0) × (x₀ < 256) → (x₁ ≡ getD b 1 0) × (x₁ < 256) → (x₂ ≡ getD b 2 0) × (x₂ < 256)
+    → (x₃ ≡ getD b 3 0) × (x₃ < 256) → (x₄ ≡ getD b 4 0) × (x₄ < 256) → (x₅ ≡ getD b 5 0) × (x₅ < 256)
+    → (x₆ ≡ getD b 6 0) × (x₆ < 256) → (x₇ ≡ getD b 7 0) × (x₇ < 256) → bytesOf 8 (limb x₀ x₁ x₂ x₃ x₄ x₅ x₆ x₇) ≡ b
 unfolding numberOf places
 limb-read b size {x₀} {x₁} {x₂} {x₃} {x₄} {x₅} {x₆} {x₇} e₀ e₁ e₂ e₃ e₄ e₅ e₆ e₇ =
     let s : List ℕ = x₀ ∷ x₁ ∷ x₂ ∷ x₃ ∷ x₄ ∷ x₅ ∷ x₆ ∷ x₇ ∷ [] in
-    let all : Bytes s =
-    bytes-cons (e₀ .1) (bytes-cons (e₁ .1) (bytes-cons (e₂ .1) (bytes-cons (e₃ .1) (bytes-cons (e₄ .1) (bytes-cons (e₅ .1) (bytes-cons (e₆ .1) (bytes-cons (e₇ .1) bytes-nil))))))) in
-    let sum : x₀ * 72057594037927936 + x₁ * 281474976710656 + x₂ * 1099511627776 + x₃ * 4294967296 + x₄ * 16777216 + x₅ * 65536 + x₆ * 256 + x₇ ≡ numberOf s = omega arith in
-    ap (bytesOf 8) sum ∙ bytesOf-numberOf all ∙ rw (e₀ .0, e₁ .0, e₂ .0, e₃ .0, e₄ .0, e₅ .0, e₆ .0, e₇ .0) (sym (places-all b 0 8 size))
+    let last : Bytes (x₄ ∷ x₅ ∷ x₆ ∷ x₇ ∷ []) =
+    bytes-cons (e₄ .1) (bytes-cons (e₅ .1) (bytes-cons (e₆ .1) (bytes-cons (e₇ .1) bytes-nil))) in
+    let all : Bytes s = bytes-cons (e₀ .1) (bytes-cons (e₁ .1) (bytes-cons (e₂ .1) (bytes-cons (e₃ .1) last))) in
+    let sum : limb x₀ x₁ x₂ x₃ x₄ x₅ x₆ x₇ ≡ numberOf s = omega arith in
+    ap (bytesOf 8) sum ∙
+    bytesOf-numberOf all ∙
+    rw (e₀ .0, e₁ .0, e₂ .0, e₃ .0, e₄ .0, e₅ .0, e₆ .0, e₇ .0) (sym (places-all b 0 8 size))
 
 -- and its eight bytes
 pub limb-stored : (x : ℕ)
-    → x / 72057594037927936 % 256 ∷ x / 281474976710656 % 256 ∷ x / 1099511627776 % 256 ∷ x / 4294967296 % 256 ∷ x / 16777216 % 256 ∷ x / 65536 % 256 ∷ x / 256 % 256 ∷ x % 256 ∷ []
+    → (x / 72057594037927936 % 256) ∷ (x / 281474976710656 % 256) ∷ (x / 1099511627776 % 256) ∷ (x / 4294967296 % 256) ∷
+    (x / 16777216 % 256) ∷ (x / 65536 % 256) ∷ (x / 256 % 256) ∷ (x % 256) ∷ []
     ≡ bytesOf 8 x
 unfolding bytesOf
 limb-stored x =

@@ -8,7 +8,8 @@ use Rattle.standard.specs.HashDrbg.{stepped, hashgenTurns}
 use Rattle.standard.specs.Sha256.{sha256}
 use Rattle.drbg_shared.specs.Costs.{costing}
 
-pub hashgen-more : (v : List ℕ) (i : ℕ) (now w next : List ℕ) → now ≡ hashgenTurns sha256 v i .value .1 → costing 1 w ≡ hash sha256 now → next ≡ stepped sha256 now 1
+pub hashgen-more : (v : List ℕ) (i : ℕ) (now w next : List ℕ) → now ≡ hashgenTurns sha256 v i .value .1
+    → costing 1 w ≡ hash sha256 now → next ≡ stepped sha256 now 1
     → hashgenTurns sha256 v (i + 1) .value ≡ (hashgenTurns sha256 v i .value .0 ++ w, next)
 unfolding hashgenTurns
 hashgen-more v i now w next now-is e step = rw (add-one, ← now-is, ← e, step)

@@ -9,7 +9,7 @@ use sha256::rounds;
 ghost use mathlib.Core.Path.{_≡_};
 ghost use mathlib.Core.List.{[], _∷_, _++_};
 ghost use Prim.Native.Nat.{_≤_};
-ghost use lib.ListN.{length, take};
+ghost use lib.ListN.{length};
 ghost use Rattle.standard.specs.Strings.{ceiling};
 ghost use Rattle.standard.specs.Hash.{compressed, digest, hash};
 ghost use Rattle.standard.specs.HashDrbg.{seeded, refreshed, hashgen, hashgenTurns};

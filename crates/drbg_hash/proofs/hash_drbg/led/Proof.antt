@@ -1,4 +1,4 @@
--- Assumes nothing.
+-- The byte stands first from the start, and V is copied behind it. Assumes nothing.
 use mathlib.Core.Path.{ap, _∙_}
 use mathlib.Core.List.{_∷_, append-nil}
 use native.Mathlib.Omega.{arith}

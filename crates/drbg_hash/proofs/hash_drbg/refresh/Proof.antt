@@ -36,4 +36,7 @@ returns-2 c =
     (rw (ifNull-some (a .additional .now) _ _ some, ← hashed, add-zero) (ap (λ s. costing (w .result .blocks) s) (sym summed)))
 
 pub refresh-spec : {M : Type 1} → statement M
-refresh-spec = tie.close (tie.spec returns (λ c. search needs) (λ c. search needs) (λ c. search needs) (λ c κs. search needs) (λ c κs. search needs) returns-2)
+refresh-spec =
+    tie.close
+    (tie.spec returns (λ c. search needs) (λ c. search needs) (λ c. search needs) (λ c κs. search needs) (λ c κs. search needs)
+    returns-2)

@@ -1,4 +1,4 @@
--- Eight quotients. Assumes nothing.
+-- Eight quotients are the eight bytes of a number (`limb-stored`). Assumes nothing.
 use Rattle.drbg_hash.proofs.Limbs.{limb-stored}
 use borrow.Author.Needs.{needs}
 use Rattle.drbg_hash.proofs.sums.bytes_of.Statement.{statement}
@@ -8,4 +8,7 @@ returns : tie.Need-returns
 returns c = limb-stored (c .args .x)
 
 pub bytes-of-spec : {M : Type 1} → statement M
-bytes-of-spec = tie.close (tie.spec (λ c. search needs) (λ c. search needs) (λ c. search needs) (λ c. search needs) (λ c. search needs) (λ c. search needs) (λ c. search needs) (λ c. search needs) returns)
+bytes-of-spec =
+    tie.close
+    (tie.spec (λ c. search needs) (λ c. search needs) (λ c. search needs) (λ c. search needs) (λ c. search needs) (λ c. search needs)
+    (λ c. search needs) (λ c. search needs) returns)

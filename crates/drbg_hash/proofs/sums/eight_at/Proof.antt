@@ -1,7 +1,7 @@
--- A copy. Assumes nothing.
-use Prim.Native.Nat.{_+_, _-_}
+-- A copy of eight bytes, over all that stood there. Assumes nothing.
+use Prim.Native.Nat.{ℕ, _+_, _-_}
 use mathlib.Core.Path.{_≡_, ap, _∙_}
-use mathlib.Core.List.{append-nil}
+use mathlib.Core.List.{List, append-nil}
 use native.Mathlib.Omega.{arith}
 use lib.ListN.{length, take, drop, replicate}
 use lib.Seq.{paste}
@@ -11,13 +11,21 @@ use borrow.Author.Needs.{needs}
 use Rattle.drbg_hash.proofs.sums.eight_at.Statement.{statement}
 use Rattle.drbg_hash.proofs.sums.eight_at.Tie as tie
 
+copied : (s r : List ℕ) {n : ℕ} → n ≡ 8 → r ≡ paste (replicate 8 0) 0 (take n s) (length (take n s)) → length (take 8 s) ≡ 8 → r ≡ take 8 s
+copied s r eight r-is size =
+    r-is ∙
+    ap (λ n. paste (replicate 8 0) 0 (take n s) (length (take n s))) eight ∙
+    pasted (replicate 8 0) (take 8 s) 0 8 size ∙
+    append-nil (take 8 s)
+
 returns : tie.Need-returns
 returns c =
     let a = c .before .before .before .before .before .args in
-    let part = take 8 (drop (a .at) (a .t1)) in
     let eight : a .at + 8 - a .at ≡ 8 = omega arith in
-    let copied : c .before .copy .last .0 ≡ paste (replicate 8 0) 0 (take (a .at + 8 - a .at) (drop (a .at) (a .t1))) (length (take (a .at + 8 - a .at) (drop (a .at) (a .t1)))) = c .before .copy .ensures in
-    copied ∙ ap (λ n. paste (replicate 8 0) 0 (take n (drop (a .at) (a .t1))) (length (take n (drop (a .at) (a .t1))))) eight ∙ pasted (replicate 8 0) part 0 8 (length-part (a .t1) (a .at) 8 (omega arith)) ∙ append-nil part
+    copied (drop (a .at) (a .t1)) _ eight (c .before .copy .ensures) (length-part (a .t1) (a .at) 8 (omega arith))
 
 pub eight-at-spec : {M : Type 1} → statement M
-eight-at-spec = tie.close (tie.spec (λ c. search needs) (λ c. search needs) (λ c. search needs) (λ c. search needs) (λ c. search needs) (λ c κs. search needs) returns)
+eight-at-spec =
+    tie.close
+    (tie.spec (λ c. search needs) (λ c. search needs) (λ c. search needs) (λ c. search needs) (λ c. search needs)
+    (λ c κs. search needs) returns)

@@ -1,4 +1,4 @@
--- The first i limbs at each i. Assumes nothing.
+-- After i turns the first i limbs are the first 8 i bytes. Assumes nothing.
 use Prim.Native.Nat.{_-_, _*_, _≤_}
 use mathlib.Core.Path.{_≡_, refl, sym, ap, _∙_}
 use mathlib.Core.List.{[], _∷_, _++_}
@@ -26,16 +26,23 @@ loop-holds c = (search needs, search needs, refl)
 loop-again : tie.Need-loop-again Inv-loop μ-loop
 loop-again c =
     let l = c .before .before .before .loop in
-    (search needs, search needs, limbs-read (l .limbs) (l .i) (omega arith) _ (c .limb-of .result) (c .limb-of .ensures ∙ c .before .eight-at .ensures) (l .inv .2))
+    let limb = c .limb-of .ensures ∙ c .before .eight-at .ensures in
+    (search needs, search needs, limbs-read (l .limbs) (l .i) (omega arith) _ (c .limb-of .result) limb (l .inv .2))
 
 returns : tie.Need-returns Inv-loop μ-loop
 returns c =
     let l = c .before .loop in
-    let a = c .before .before .before .before .before .before .args in
+    let copied = c .before .before .before in
+    let a = copied .before .before .before .args in
+    let whole = copied .copy .last .0 in
     let done : l .i ≡ 7 = omega arith in
-    let filled : c .before .before .before .copy .last .0 ≡ a .t1 ++ (a .last ∷ []) = c .before .before .before .copy .ensures ∙ pasted (replicate 56 (a .last)) (a .t1) 0 55 (omega arith) in
-    let size : length (c .before .before .before .copy .last .0) ≤ 56 = omega (arith, ap length filled, length-append (a .t1) (a .last ∷ [])) in
-    sym (ap stringOf (take-all 7 (l .limbs) (le-of-eq (l .inv .1)))) ∙ (rw done at (l .inv .2)) ∙ take-all 56 (c .before .before .before .copy .last .0) size ∙ filled
+    let filled : whole ≡ a .t1 ++ (a .last ∷ []) = copied .copy .ensures ∙ pasted (replicate 56 (a .last)) (a .t1) 0 55 (omega arith) in
+    let size : length whole ≤ 56 = omega (arith, ap length filled, length-append (a .t1) (a .last ∷ [])) in
+    sym (ap stringOf (take-all 7 (l .limbs) (le-of-eq (l .inv .1)))) ∙ (rw done at (l .inv .2)) ∙ take-all 56 whole size ∙ filled
 
 pub limbs-of-spec : {M : Type 1} → statement M
-limbs-of-spec = tie.close (tie.spec Inv-loop μ-loop (λ c. search needs) (λ c. search needs) (λ c κs. search needs) loop-holds (λ c. search needs) (λ c κs. search needs) (λ c κs. search needs) (λ c. search needs) (λ c. search needs) (λ c. search needs) (λ c. search needs) loop-again returns)
+limbs-of-spec =
+    tie.close
+    (tie.spec Inv-loop μ-loop (λ c. search needs) (λ c. search needs) (λ c κs. search needs) loop-holds (λ c. search needs)
+    (λ c κs. search needs) (λ c κs. search needs) (λ c. search needs) (λ c. search needs) (λ c. search needs) (λ c. search needs)
+    loop-again returns)

@@ -1,4 +1,4 @@
--- The front of the block. Assumes nothing.
+-- The limbs' bytes are the front of a block, and their first 55 are copied. Assumes nothing.
 use Prim.Native.Nat.{_≤_}
 use mathlib.Core.Path.{sym, ap, _∙_}
 use mathlib.Core.List.{append-nil}
@@ -13,15 +13,20 @@ use Rattle.drbg_hash.proofs.sums.number_of.Statement.{statement}
 use Rattle.drbg_hash.proofs.sums.number_of.Tie as tie
 
 slice-aggregate-copy-2 : tie.Need-slice-aggregate-copy-2
-slice-aggregate-copy-2 c = sym (length-take-le 55 (c .before .before .put-limbs .last .0) (omega (arith, c .before .before .put-limbs .ensures .1)))
+slice-aggregate-copy-2 c =
+    let put = c .before .before .put-limbs in
+    sym (length-take-le 55 (put .last .0) (omega (arith, put .ensures .1)))
 
 copy-requires : tie.Need-copy-requires
-copy-requires c κs = omega (arith, length-take-le 55 (c .before .before .put-limbs .last .0) (omega (arith, c .before .before .put-limbs .ensures .1)))
+copy-requires c κs =
+    let put = c .before .before .put-limbs in
+    omega (arith, length-take-le 55 (put .last .0) (omega (arith, put .ensures .1)))
 
 returns : tie.Need-returns
 returns c =
-    let limbs = c .before .before .before .before .before .before .args .limbs in
-    let put = c .before .before .before .before .put-limbs in
+    let filled = c .before .before .before .before in
+    let limbs = filled .before .before .args .limbs in
+    let put = filled .put-limbs in
     let block = put .last .0 in
     let long : 55 ≤ length (stringOf limbs) = omega (arith, length-stringOf limbs) in
     c .before .copy .ensures ∙
@@ -31,4 +36,6 @@ returns c =
     take-append-le 55 (stringOf limbs) (drop 56 (replicate 64 0)) long
 
 pub number-of-spec : {M : Type 1} → statement M
-number-of-spec = tie.close (tie.spec (λ c κs. search needs) (λ c. search needs) (λ c. search needs) slice-aggregate-copy-2 copy-requires returns)
+number-of-spec =
+    tie.close
+    (tie.spec (λ c κs. search needs) (λ c. search needs) (λ c. search needs) slice-aggregate-copy-2 copy-requires returns)

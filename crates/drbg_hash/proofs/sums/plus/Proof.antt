@@ -14,7 +14,8 @@ use Rattle.drbg_hash.proofs.sums.plus.Tie as tie
 abbrev Inv-loop : tie.InvT-loop
 Inv-loop a b sum₀ carry₀ i₀ sum carry i =
     (i ≤ 7) × (length a ≡ 7) × (length b ≡ 7) × (length sum ≡ 7) ×
-    (bytesOf 56 (numberOf (stringOf a) + numberOf (stringOf b)) ≡ bytesOf (8 * i) (numberOf (stringOf (take i a)) + numberOf (stringOf (take i b)) + carry) ++ stringOf (drop i sum))
+    (bytesOf 56 (numberOf (stringOf a) + numberOf (stringOf b))
+    ≡ bytesOf (8 * i) (numberOf (stringOf (take i a)) + numberOf (stringOf (take i b)) + carry) ++ stringOf (drop i sum))
 
 abbrev μ-loop : tie.MeasureT-loop
 μ-loop a b sum₀ carry₀ i₀ sum carry i = i
@@ -46,4 +47,8 @@ returns c =
     sym (limbs-none _ (l .sum) _ (rw none at (l .inv .4)))
 
 pub plus-spec : {M : Type 1} → statement M
-plus-spec = tie.close (tie.spec Inv-loop μ-loop loop-holds (λ c. search needs) (λ c. search needs) (λ c. search needs) (λ c. search needs) (λ c. search needs) (λ c κs. search needs) (λ c. search needs) (λ c. search needs) (λ c. search needs) (λ c. search needs) (λ c. search needs) (λ c. search needs) (λ c κs. search needs) (λ c. search needs) loop-again returns)
+plus-spec =
+    tie.close
+    (tie.spec Inv-loop μ-loop loop-holds (λ c. search needs) (λ c. search needs) (λ c. search needs) (λ c. search needs)
+    (λ c. search needs) (λ c κs. search needs) (λ c. search needs) (λ c. search needs) (λ c. search needs) (λ c. search needs)
+    (λ c. search needs) (λ c. search needs) (λ c κs. search needs) (λ c. search needs) loop-again returns)

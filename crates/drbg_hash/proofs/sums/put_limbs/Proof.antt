@@ -1,4 +1,4 @@
--- The first i limbs at each i. Assumes nothing.
+-- After i turns the first i limbs stand before what the block held. Assumes nothing.
 use Prim.Native.Nat.{_-_, _*_, _≤_}
 use mathlib.Core.Path.{_≡_, refl, ap, _∙_}
 use mathlib.Core.List.{_++_}
@@ -13,7 +13,8 @@ use Rattle.drbg_hash.proofs.sums.put_limbs.Statement.{statement}
 use Rattle.drbg_hash.proofs.sums.put_limbs.Tie as tie
 
 abbrev Inv-loop : tie.InvT-loop
-Inv-loop block₀ limbs i₀ block i = (i ≤ 7) × (length limbs ≡ 7) × (length block ≡ 64) × (block ≡ stringOf (take i limbs) ++ drop (8 * i) block₀)
+Inv-loop block₀ limbs i₀ block i =
+    (i ≤ 7) × (length limbs ≡ 7) × (length block ≡ 64) × (block ≡ stringOf (take i limbs) ++ drop (8 * i) block₀)
 
 abbrev μ-loop : tie.MeasureT-loop
 μ-loop block₀ limbs i₀ block i = 7 - i
@@ -24,12 +25,14 @@ loop-holds c = (search needs, search needs, search needs, refl)
 
 loop-again : tie.Need-loop-again Inv-loop μ-loop
 loop-again c =
-    let l = c .before .before .before .before .before .loop in
-    let a = c .before .before .before .before .before .before .args in (
+    let bytes = c .before .before .before in
+    let l = bytes .before .before .loop in
+    let a = bytes .before .before .before .args in
+    let b = bytes .bytes-of in (
       search needs,
       search needs,
       search needs,
-      limbs-put (a .t2) (l .i) (omega arith) (a .block .now) (l .block) _ (c .before .before .before .bytes-of .result) (c .before .before .before .bytes-of .ensures) (c .copy .ensures) (l .inv .3),
+      limbs-put (a .t2) (l .i) (omega arith) (a .block .now) (l .block) _ (b .result) (b .ensures) (c .copy .ensures) (l .inv .3),
     )
 
 returns : tie.Need-returns Inv-loop μ-loop
@@ -40,4 +43,7 @@ returns c =
     (rw done at (l .inv .3) ∙ ap (λ k. stringOf k ++ drop 56 (a .block .now)) (take-all 7 (a .t2) (le-of-eq (l .inv .1))), l .inv .2)
 
 pub put-limbs-spec : {M : Type 1} → statement M
-put-limbs-spec = tie.close (tie.spec Inv-loop μ-loop loop-holds (λ c. search needs) (λ c. search needs) (λ c κs. search needs) (λ c. search needs) (λ c. search needs) (λ c κs. search needs) (λ c. search needs) (λ c. search needs) loop-again returns)
+put-limbs-spec =
+    tie.close
+    (tie.spec Inv-loop μ-loop loop-holds (λ c. search needs) (λ c. search needs) (λ c κs. search needs) (λ c. search needs)
+    (λ c. search needs) (λ c κs. search needs) (λ c. search needs) (λ c. search needs) loop-again returns)
