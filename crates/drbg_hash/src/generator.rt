@@ -1,6 +1,5 @@
 // Hash_DRBG on a generator as it stands in a slot.
 use crate::hash_drbg;
-use crate::sums;
 use drbg_shared::generator::Generator;
 use drbg_shared::generator::Served;
 ghost use mathlib.Core.Path.{_≡_};

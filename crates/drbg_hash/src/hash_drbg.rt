@@ -1,7 +1,6 @@
 // SP 800-90A §10.1.1: Hash_DRBG over SHA-256.
 use crate::hash_df;
 use crate::hash_df::Derived;
-use crate::sums;
 use drbg_shared::joined;
 use drbg_shared::output;
 use sha256::digest;
@@ -15,7 +14,7 @@ ghost use Rattle.standard.specs.Hash.{compressed, digest, hash};
 ghost use Rattle.standard.specs.HashDrbg.{seeded, refreshed, hashgen, hashgenTurns};
 ghost use Rattle.standard.specs.Sha256.{sha256};
 ghost use Rattle.drbg_shared.specs.Costs.{costing};
-ghost use Rattle.drbg_hash.specs.Limbs.{stringOf, valueIn, Marked};
+ghost use Rattle.sums.specs.Limbs.{stringOf, valueIn, Marked};
 ghost use Rattle.drbg_hash.specs.Seeds.{derivedOf, seedOf, valueOf, constantOf, stateWith};
 
 // V and C, with the blocks that were consumed for them.

@@ -10,9 +10,9 @@ use Rattle.standard.specs.Functions.{Hash-DRBG, draw}
 use Rattle.standard.specs.Sha256.{sha256}
 use Rattle.drbg_shared.specs.Costs.{costing}
 use Rattle.drbg_shared.specs.Generator.{stateOf, filled}
-use Rattle.drbg_hash.specs.Limbs.{valueIn}
+use Rattle.sums.specs.Limbs.{valueIn}
 use Rattle.drbg_hash.specs.Seeds.{valueOf, stateWith}
-use Rattle.drbg_hash.proofs.Limbs.{value-behind, marked-behind}
+use Rattle.sums.proofs.Limbs.{value-behind, marked-behind}
 use Rattle.drbg_hash.proofs.Standing.{served-hash, few-hash}
 use borrow.Author.Needs.{needs}
 use Rattle.drbg_hash.proofs.generator.hash_drawn.Statement.{statement}

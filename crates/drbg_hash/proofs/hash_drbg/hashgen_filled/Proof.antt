@@ -15,9 +15,9 @@ use Rattle.standard.proofs.Lengths.{length-hashgenTurns}
 use Rattle.drbg_shared.proofs.Outputs.{turn-stored, turns-are}
 use Rattle.drbg_hash.proofs.Turns.{hashgen-more}
 use Rattle.drbg_shared.specs.Costs.{costing}
-use Rattle.drbg_hash.specs.Limbs.{stringOf, valueIn}
-use Rattle.drbg_hash.proofs.Carries.{one-more}
-use Rattle.drbg_hash.proofs.Limbs.{length-stringOf, length-valueIn, value-behind}
+use Rattle.sums.specs.Limbs.{stringOf, valueIn}
+use Rattle.sums.proofs.Carries.{one-more}
+use Rattle.sums.proofs.Limbs.{length-stringOf, length-valueIn, value-behind}
 use Rattle.drbg_shared.proofs.Short.{hash-of-one, padded-55}
 use Rattle.drbg_shared.proofs.Metered.{same-metered}
 use borrow.Author.Needs.{needs}

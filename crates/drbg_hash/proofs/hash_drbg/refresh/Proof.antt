@@ -12,7 +12,7 @@ use Rattle.standard.proofs.Strings.{ifNull-nil, ifNull-some}
 use Rattle.sha256.specs.Values.{digestOf}
 use Rattle.drbg_shared.specs.Costs.{costing}
 use Rattle.drbg_shared.proofs.Metered.{empty}
-use Rattle.drbg_hash.proofs.Carries.{sum-alone}
+use Rattle.sums.proofs.Carries.{sum-alone}
 use borrow.Author.Needs.{needs}
 use Rattle.drbg_hash.proofs.hash_drbg.refresh.Statement.{statement}
 use Rattle.drbg_hash.proofs.hash_drbg.refresh.Tie as tie

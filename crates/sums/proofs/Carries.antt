@@ -14,8 +14,8 @@ use lib.ListN.{length, getD, take, drop, set, replicate, length-set, drop-of-len
 use lib.Seq.{take-all, take-at, drop-cons, drop-set-lt, getD-set-same}
 use Rattle.standard.specs.Strings.{numberOf, bytesOf}
 use Rattle.standard.proofs.Strings.{numberOf-append, numberOf-bytesOf, bytesOf-add, bytesOf-above, bytesOf-mod, length-bytesOf}
-use Rattle.drbg_hash.specs.Limbs.{stringOf}
-use Rattle.drbg_hash.proofs.Limbs.{stringOf-cons, numberOf-more}
+use Rattle.sums.specs.Limbs.{stringOf}
+use Rattle.sums.proofs.Limbs.{stringOf-cons, numberOf-more}
 
 -- two limbs of k bytes and a carry, behind a and b: what is left in their place, and what is carried on
 limb-added : (k at a b x y carry : ℕ)

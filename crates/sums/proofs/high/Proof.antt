@@ -3,10 +3,10 @@ use Prim.Native.Nat.{_+_}
 use mathlib.Core.Path.{ap₂, _∙_}
 use native.Mathlib.Omega.{arith}
 use lib.Dec.{ltb}
-use Rattle.drbg_hash.proofs.Carries.{carried, carried-twice, two-bits}
+use Rattle.sums.proofs.Carries.{carried, carried-twice, two-bits}
 use borrow.Author.Needs.{needs}
-use Rattle.drbg_hash.proofs.sums.high.Statement.{statement}
-use Rattle.drbg_hash.proofs.sums.high.Tie as tie
+use Rattle.sums.proofs.high.Statement.{statement}
+use Rattle.sums.proofs.high.Tie as tie
 
 returns : tie.Need-returns
 returns c =

@@ -9,7 +9,7 @@ use lib.Seq.{paste, take-add, take-at, drop-at, drop-drop, drop-cons, length-tak
 use Rattle.standard.specs.Strings.{numberOf, bytesOf, Bytes}
 use Rattle.standard.proofs.Strings.{bytes-nil, bytes-cons, bytesOf-numberOf, length-bytesOf, numberOf-append, numberOf-bytesOf}
 use Rattle.sha256.proofs.Stores.{take-more, take-more-set}
-use Rattle.drbg_hash.specs.Limbs.{stringOf, valueIn, Marked}
+use Rattle.sums.specs.Limbs.{stringOf, valueIn, Marked}
 use Rattle.copies.proofs.Pasted.{pasted}
 
 stringOf-append : (l m : List ℕ) → stringOf (l ++ m) ≡ stringOf l ++ stringOf m

@@ -1,9 +1,9 @@
 -- Eight bytes, each with its weight, are the number that they spell (`limb-read`). Assumes nothing.
 use native.Mathlib.Omega.{arith}
-use Rattle.drbg_hash.proofs.Limbs.{limb-read}
+use Rattle.sums.proofs.Limbs.{limb-read}
 use borrow.Author.Needs.{needs}
-use Rattle.drbg_hash.proofs.sums.limb_of.Statement.{statement}
-use Rattle.drbg_hash.proofs.sums.limb_of.Tie as tie
+use Rattle.sums.proofs.limb_of.Statement.{statement}
+use Rattle.sums.proofs.limb_of.Tie as tie
 
 returns : tie.Need-returns
 returns c =

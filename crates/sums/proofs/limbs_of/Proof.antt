@@ -6,12 +6,12 @@ use native.Mathlib.Nat.{le-of-eq}
 use native.Mathlib.Omega.{arith}
 use lib.ListN.{length, take, replicate, length-append}
 use lib.Seq.{take-all}
-use Rattle.drbg_hash.specs.Limbs.{stringOf}
-use Rattle.drbg_hash.proofs.Limbs.{limbs-read}
+use Rattle.sums.specs.Limbs.{stringOf}
+use Rattle.sums.proofs.Limbs.{limbs-read}
 use Rattle.copies.proofs.Pasted.{pasted}
 use borrow.Author.Needs.{needs}
-use Rattle.drbg_hash.proofs.sums.limbs_of.Statement.{statement}
-use Rattle.drbg_hash.proofs.sums.limbs_of.Tie as tie
+use Rattle.sums.proofs.limbs_of.Statement.{statement}
+use Rattle.sums.proofs.limbs_of.Tie as tie
 
 abbrev Inv-loop : tie.InvT-loop
 Inv-loop last whole limbs₀ i₀ limbs i = (i ≤ 7) × (length limbs ≡ 7) × (stringOf (take i limbs) ≡ take (8 * i) whole)

@@ -5,12 +5,12 @@ use mathlib.Core.List.{append-nil}
 use native.Mathlib.Omega.{arith}
 use lib.ListN.{length, take, drop, replicate}
 use lib.Seq.{length-take-le, take-append-le}
-use Rattle.drbg_hash.specs.Limbs.{stringOf}
-use Rattle.drbg_hash.proofs.Limbs.{length-stringOf}
+use Rattle.sums.specs.Limbs.{stringOf}
+use Rattle.sums.proofs.Limbs.{length-stringOf}
 use Rattle.copies.proofs.Pasted.{pasted}
 use borrow.Author.Needs.{needs}
-use Rattle.drbg_hash.proofs.sums.number_of.Statement.{statement}
-use Rattle.drbg_hash.proofs.sums.number_of.Tie as tie
+use Rattle.sums.proofs.number_of.Statement.{statement}
+use Rattle.sums.proofs.number_of.Tie as tie
 
 slice-aggregate-copy-2 : tie.Need-slice-aggregate-copy-2
 slice-aggregate-copy-2 c =

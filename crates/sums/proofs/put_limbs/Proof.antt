@@ -6,11 +6,11 @@ use native.Mathlib.Nat.{le-of-eq}
 use native.Mathlib.Omega.{arith}
 use lib.ListN.{length, take, drop}
 use lib.Seq.{take-all}
-use Rattle.drbg_hash.specs.Limbs.{stringOf}
-use Rattle.drbg_hash.proofs.Limbs.{limbs-put}
+use Rattle.sums.specs.Limbs.{stringOf}
+use Rattle.sums.proofs.Limbs.{limbs-put}
 use borrow.Author.Needs.{needs}
-use Rattle.drbg_hash.proofs.sums.put_limbs.Statement.{statement}
-use Rattle.drbg_hash.proofs.sums.put_limbs.Tie as tie
+use Rattle.sums.proofs.put_limbs.Statement.{statement}
+use Rattle.sums.proofs.put_limbs.Tie as tie
 
 abbrev Inv-loop : tie.InvT-loop
 Inv-loop block₀ limbs i₀ block i =

@@ -5,11 +5,11 @@ use mathlib.Core.List.{_++_}
 use native.Mathlib.Omega.{arith}
 use lib.ListN.{length, take, drop}
 use Rattle.standard.specs.Strings.{numberOf, bytesOf}
-use Rattle.drbg_hash.specs.Limbs.{stringOf}
-use Rattle.drbg_hash.proofs.Carries.{limb-done, limbs-all, limbs-none}
+use Rattle.sums.specs.Limbs.{stringOf}
+use Rattle.sums.proofs.Carries.{limb-done, limbs-all, limbs-none}
 use borrow.Author.Needs.{needs}
-use Rattle.drbg_hash.proofs.sums.plus.Statement.{statement}
-use Rattle.drbg_hash.proofs.sums.plus.Tie as tie
+use Rattle.sums.proofs.plus.Statement.{statement}
+use Rattle.sums.proofs.plus.Tie as tie
 
 abbrev Inv-loop : tie.InvT-loop
 Inv-loop a b sum₀ carry₀ i₀ sum carry i =

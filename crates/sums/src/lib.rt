@@ -6,7 +6,7 @@ ghost use mathlib.Core.List.{[], _∷_, _++_};
 ghost use Prim.Native.Nat.{_+_, _/_, _%_, _^_, _≤_, _<_};
 ghost use lib.ListN.{length, take, drop};
 ghost use Rattle.standard.specs.Strings.{numberOf, bytesOf};
-ghost use Rattle.drbg_hash.specs.Limbs.{stringOf, valueIn};
+ghost use Rattle.sums.specs.Limbs.{stringOf, valueIn};
 
 fn wide(b: u8) -> u64
     ensures { λ r. ⌜ (r ≡ b) × (r < 256) ⌝ }

@@ -8,8 +8,8 @@ use lib.Seq.{paste}
 use Rattle.sha256.proofs.Stores.{length-part}
 use Rattle.copies.proofs.Pasted.{pasted}
 use borrow.Author.Needs.{needs}
-use Rattle.drbg_hash.proofs.sums.eight_at.Statement.{statement}
-use Rattle.drbg_hash.proofs.sums.eight_at.Tie as tie
+use Rattle.sums.proofs.eight_at.Statement.{statement}
+use Rattle.sums.proofs.eight_at.Tie as tie
 
 copied : (s r : List ℕ) {n : ℕ} → n ≡ 8 → r ≡ paste (replicate 8 0) 0 (take n s) (length (take n s)) → length (take 8 s) ≡ 8 → r ≡ take 8 s
 copied s r eight r-is size =

@@ -1,8 +1,8 @@
 -- Eight quotients are the eight bytes of a number (`limb-stored`). Assumes nothing.
-use Rattle.drbg_hash.proofs.Limbs.{limb-stored}
+use Rattle.sums.proofs.Limbs.{limb-stored}
 use borrow.Author.Needs.{needs}
-use Rattle.drbg_hash.proofs.sums.bytes_of.Statement.{statement}
-use Rattle.drbg_hash.proofs.sums.bytes_of.Tie as tie
+use Rattle.sums.proofs.bytes_of.Statement.{statement}
+use Rattle.sums.proofs.bytes_of.Tie as tie
 
 returns : tie.Need-returns
 returns c = limb-stored (c .args .x)

@@ -5,11 +5,11 @@ use mathlib.Core.List.{_++_, append-nil}
 use native.Mathlib.Omega.{arith}
 use lib.ListN.{length, take, replicate, drop-of-length-le}
 use Rattle.standard.specs.Strings.{numberOf}
-use Rattle.drbg_hash.proofs.Carries.{numberOf-widened}
+use Rattle.sums.proofs.Carries.{numberOf-widened}
 use Rattle.copies.proofs.Pasted.{pasted}
 use borrow.Author.Needs.{needs}
-use Rattle.drbg_hash.proofs.sums.widened.Statement.{statement}
-use Rattle.drbg_hash.proofs.sums.widened.Tie as tie
+use Rattle.sums.proofs.widened.Statement.{statement}
+use Rattle.sums.proofs.widened.Tie as tie
 
 returns : tie.Need-returns
 returns c =

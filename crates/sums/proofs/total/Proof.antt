@@ -5,11 +5,11 @@ use native.Mathlib.Nat.{mod-eq-of-lt}
 use native.Mathlib.Omega.{arith}
 use Rattle.standard.specs.Strings.{numberOf, bytesOf}
 use Rattle.standard.proofs.Strings.{numberOf-bytesOf}
-use Rattle.drbg_hash.specs.Limbs.{stringOf}
-use Rattle.drbg_hash.proofs.Carries.{sum-first, sum-more, sum-whole}
+use Rattle.sums.specs.Limbs.{stringOf}
+use Rattle.sums.proofs.Carries.{sum-first, sum-more, sum-whole}
 use borrow.Author.Needs.{needs}
-use Rattle.drbg_hash.proofs.sums.total.Statement.{statement}
-use Rattle.drbg_hash.proofs.sums.total.Tie as tie
+use Rattle.sums.proofs.total.Statement.{statement}
+use Rattle.sums.proofs.total.Tie as tie
 
 regrouped : (v h c n : ℕ) → v + h + c + n ≡ v + (h + c + n)
 regrouped v h c n = omega arith
