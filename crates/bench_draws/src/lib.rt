@@ -1,6 +1,6 @@
 // Openings and draws on numbers and lent slices, for the bench: a generator's two fields go in, and its successor's come back.
 use drbg::generator;
-use drbg::generator::Generator;
+use drbg_shared::generator::Generator;
 ghost use mathlib.Core.Path.{_≡_};
 ghost use lib.ListN.{length};
 

@@ -14,7 +14,8 @@ use Rattle.standard.specs.Sha256.{sha256}
 use Rattle.standard.proofs.Lengths.{counter-opening, counter-reseeding, counter-draw, counter-freshDraw}
 use Rattle.standard.specs.Blocks.{openCount, reseedCount, drawCount, freshDrawCount}
 use Rattle.standard.proofs.Counts.{opening-blocks, reseeding-blocks, draw-blocks, freshDraw-blocks}
-use Rattle.drbg.specs.Generator.{mechanismOf, standing, served, filled}
+use Rattle.drbg_shared.specs.Generator.{standing, served, filled}
+use Rattle.drbg.specs.Mechanism.{mechanismOf}
 use Rattle.slots.specs.Layout.{freeSlot, slotAt, withSlot, lastSerial, withLastSerial, freshTable, Table}
 use Rattle.slots.specs.Sound.{sound}
 use Rattle.slots.specs.Handle.{handleOf, slotOf, names, lookUp, named, lowestFree}

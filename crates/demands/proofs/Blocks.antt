@@ -12,7 +12,8 @@ use Rattle.standard.specs.Functions.{opening}
 use Rattle.standard.proofs.Lengths.{counter-opening}
 use Rattle.standard.proofs.Bound.{bounded}
 use Rattle.standard.proofs.Counts.{opening-blocks, reseeding-blocks, draw-blocks, freshDraw-blocks}
-use Rattle.drbg.specs.Generator.{mechanismOf, standing, served, filled}
+use Rattle.drbg.specs.Mechanism.{mechanismOf}
+use Rattle.drbg_shared.specs.Generator.{standing, served, filled}
 use Rattle.slots.specs.Layout.{Table, slotAt, lastSerial, freshTable}
 use Rattle.slots.specs.Handle.{slotOf, names, lookUp, named, lowestFree}
 use Rattle.slots.specs.declared.slot.Slot.{Slot}

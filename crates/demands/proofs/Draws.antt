@@ -13,7 +13,7 @@ use lib.Dec.{eqb, eqb·suc-zero}
 use lib.ListN.{length}
 use Rattle.standard.specs.Sha256.{sha256}
 use Rattle.standard.proofs.Lengths.{counter-draw}
-use Rattle.drbg.specs.Generator.{standing, served, filled}
+use Rattle.drbg_shared.specs.Generator.{standing, served, filled}
 use Rattle.slots.specs.Layout.{freeSlot, slotAt, withSlot, lastSerial, withLastSerial, Table}
 use Rattle.slots.specs.Sound.{sound}
 use Rattle.slots.specs.Handle.{inUse, slotOf, names, lowestFree}

@@ -13,8 +13,9 @@ use Rattle.standard.specs.Functions.{Mechanism, opening, reseeding, draw, fresh
 use Rattle.standard.specs.Lengths.{Sized, stateBytes}
 use Rattle.standard.proofs.Lengths.{sized-opening, sized-reseeding, sized-draw, sized-freshDraw, counter-opening, counter-reseeding}
 use Rattle.standard.proofs.Lengths.{counter-freshDraw}
-use Rattle.drbg.specs.Generator.{mechanismOf, standing, served, filled}
-use Rattle.drbg.proofs.Standing.{stateOf-standing}
+use Rattle.drbg.specs.Mechanism.{mechanismOf}
+use Rattle.drbg_shared.specs.Generator.{standing, served, filled}
+use Rattle.drbg_shared.proofs.Standing.{stateOf-standing}
 use Rattle.slots.specs.Layout.{slotAt, withSlot, lastSerial, Table}
 use Rattle.slots.specs.Sound.{sound}
 use Rattle.slots.specs.Handle.{handleOf, slotOf, lookUp, named, lowestFree}

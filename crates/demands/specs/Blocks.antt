@@ -5,7 +5,7 @@ use Prim.Native.Nat.{ℕ}
 use lib.ListN.{length}
 use Rattle.standard.specs.Sha256.{sha256}
 use Rattle.standard.specs.Blocks.{openCount, reseedCount, drawCount, freshDrawCount}
-use Rattle.drbg.specs.Generator.{mechanismOf}
+use Rattle.drbg.specs.Mechanism.{mechanismOf}
 use Rattle.slots.specs.Layout.{Table}
 use Rattle.slots.specs.Handle.{slotOf}
 use Rattle.table.specs.Served.{mechanismIn}

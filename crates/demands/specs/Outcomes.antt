@@ -3,7 +3,7 @@ use mathlib.Core.Path.{_≡_}
 use mathlib.Core.List.{List, [], _∷_}
 use Prim.Native.Nat.{ℕ, suc, _+_}
 use Rattle.standard.specs.State.{State}
-use Rattle.drbg.specs.Generator.{standing}
+use Rattle.drbg_shared.specs.Generator.{standing}
 use Rattle.slots.specs.Layout.{Table, lastSerial}
 use Rattle.slots.specs.Handle.{handleOf, slotOf, lowestFree}
 use Rattle.slots.specs.declared.slot.Slot.{Slot}

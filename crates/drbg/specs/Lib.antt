@@ -1,2 +1,2 @@
--- What the contracts of this crate cite, over the definitions of `standard`.
-pub mod Generator
+-- What the contracts of this crate cite, over the definitions of `standard` and of both mechanisms.
+pub mod Mechanism

@@ -1,21 +1,21 @@
 // SP 800-90A §10.1.1: Hash_DRBG over SHA-256.
 use crate::hash_df;
-use crate::sums;
+use crate::hash_df::Derived;
 use compression::digest;
 use compression::rounds;
-use drbg_hmac::joined;
-use drbg_hmac::output;
+use drbg_shared::joined;
+use drbg_shared::output;
 ghost use mathlib.Core.Path.{_≡_};
 ghost use mathlib.Core.List.{[], _∷_, _++_};
 ghost use Prim.Native.Nat.{_≤_};
-ghost use lib.ListN.{length, take};
+ghost use lib.ListN.{length};
 ghost use Rattle.standard.specs.Strings.{ceiling};
 ghost use Rattle.standard.specs.Hash.{compressed, digest, hash};
 ghost use Rattle.standard.specs.HashDrbg.{seeded, refreshed, hashgen, hashgenTurns};
 ghost use Rattle.standard.specs.Sha256.{sha256};
-ghost use Rattle.drbg_hmac.specs.Keys.{costing};
-ghost use Rattle.drbg_hash.specs.Limbs.{stringOf, valueIn, Marked};
-ghost use Rattle.drbg_hash.specs.Seeds.{seedOf, valueOf, stateWith};
+ghost use Rattle.drbg_shared.specs.Costs.{costing};
+ghost use Rattle.sums.specs.Limbs.{stringOf, valueIn, Marked};
+ghost use Rattle.drbg_hash.specs.Seeds.{derivedOf, seedOf, valueOf, constantOf, stateWith};
 
 // V and C, with the blocks that were consumed for them.
 pub struct Seed {
@@ -30,26 +30,38 @@ pub struct Value {
     pub blocks: u64,
 }
 
-// §10.1.1.2 and 10.1.1.3, steps 2 to 6: the seed material is n bytes of lead, then the caller's strings.
-pub fn seed_from<'a>(
-    lead: [u8; 56],
-    n: usize,
-    entropy: &'a [u8],
-    nonce: &'a [u8],
-    personalization: &'a [u8],
-) -> Seed
-    requires { ⌜ (n ≤ 56) × (length (now entropy) ≤ 1024) × (length (now nonce) ≤ 1024) × (length (now personalization) ≤ 1024) ⌝ }
-    ensures { λ r. ⌜ seedOf r ≡ seeded sha256 (take n lead ++ (now (entropy .entry) ++ (now (nonce .entry) ++ now (personalization .entry)))) ⌝ }
+// §10.1.1.2 and 10.1.1.3, step 4: C.
+fn constant_of(v: [u8; 55]) -> Derived
+    ensures is { λ r. ⌜ derivedOf r ≡ constantOf v ⌝ }
+    ensures count { λ r. ⌜ r .blocks ≡ 4 ⌝ }
 {
-    let first = hash_df::derive(lead, n, entropy, nonce, personalization);
-    let v = first.bytes;
-    let none = &entropy[..0];
-    let second = hash_df::derive(hash_df::led(0, v), 56, none, none, none);
-    let c = second.bytes;
+    let zero = [0u8];
+    let mark = &zero[..];
+    let none = &mark[..0];
+    hash_df::derive(mark, &v, none, none, none)
+}
+
+// §10.1.1.2 and 10.1.1.3, steps 2 to 6: the seed material is a mark and the old V, or nothing of both, then the caller's strings.
+pub fn seed_from<'a>(
+    mark: &[u8],
+    old: &[u8],
+    first: &'a [u8],
+    second: &'a [u8],
+    third: &'a [u8],
+) -> Seed
+    requires { ⌜ (length (now mark) ≤ 64) × (length (now old) ≤ 64) ⌝ }
+    requires { ⌜ (length (now first) ≤ 1024) × (length (now second) ≤ 1024) × (length (now third) ≤ 1024) ⌝ }
+    ensures { λ r. ⌜ seedOf r ≡ seeded sha256
+        (now (mark .entry) ++ (now (old .entry) ++ (now (first .entry) ++ (now (second .entry) ++ now (third .entry))))) ⌝ }
+{
+    let value = hash_df::derive(mark, old, first, second, third);
+    let v = value.bytes;
+    let constant = constant_of(v);
+    let c = constant.bytes;
     Seed {
         v,
         c,
-        blocks: first.blocks + second.blocks,
+        blocks: value.blocks + constant.blocks,
     }
 }
 
@@ -75,7 +87,8 @@ fn hash_of_block(block: [u8; 64]) -> [u8; 32]
 pub fn hashgen_filled(next: &mut [u64; 7], out: &mut [u8]) -> u64
     requires { ⌜ (length (now next) ≡ 7) × (length (now out) ≤ 65536) × Marked (now next) ⌝ }
     ensures is { λ r. ⌜ costing r (now (out .exit)) ≡ hashgen sha256 (length (now (out .entry))) (valueIn (now (next .entry))) ⌝ }
-    ensures moved { λ _. ⌜ valueIn (now (next .exit)) ≡ hashgenTurns sha256 (valueIn (now (next .entry))) (ceiling (length (now (out .entry))) 32) .value .1 ⌝ }
+    ensures moved { λ _. ⌜ valueIn (now (next .exit))
+        ≡ hashgenTurns sha256 (valueIn (now (next .entry))) (ceiling (length (now (out .entry))) 32) .value .1 ⌝ }
 {
     // 1, before the byte behind V
     let one = [0, 0, 0, 0, 0, 0, 256];
@@ -99,17 +112,24 @@ pub fn refresh(v: [u8; 55], additional: &[u8]) -> Value
     if additional.len() == 0 {
         return Value { v, blocks: 0 };
     }
-    let lead = hash_df::led(2, v);
+    let mark = [2u8];
     let none = &additional[..0];
-    let all = &lead[..];
-    let empty = &all[..0];
-    let w = joined::hash_joined(all, empty, empty, additional, none, none);
+    let w = joined::hash_joined(&mark, &v, none, additional, none, none);
     let bytes = w.bytes;
     let next = sums::total(v, bytes, [0u8; 55], 0);
     Value {
         v: next,
         blocks: w.blocks,
     }
+}
+
+// A byte before V.
+fn led(byte: u8, v: [u8; 55]) -> [u8; 56]
+    ensures { λ r. ⌜ r ≡ byte ∷ v ⌝ }
+{
+    let mut s = [byte; 56];
+    copies::copy(&mut s, 1, &v);
+    s
 }
 
 // The hash of 56 bytes: a bit 1 and zeros fill their block, and 448, the length in bits, ends another.
@@ -131,7 +151,7 @@ pub fn step(limbs: [u64; 7], c: [u8; 55], counter: u64) -> Value
     ensures { λ r. ⌜ valueOf r ≡ stateWith (valueIn limbs) c counter ⌝ }
 {
     let v = sums::number_of(limbs);
-    let h = hash_of_led(hash_df::led(3, v));
+    let h = hash_of_led(led(3, v));
     let next = sums::total(v, h, c, counter);
     Value { v: next, blocks: 2 }
 }

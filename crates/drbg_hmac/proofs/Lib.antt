@@ -1,5 +1,5 @@
 -- What the proofs of several functions share.
 pub mod Pads
-pub mod Short
 pub mod Updates
-pub mod Outputs
+pub mod Turns
+pub mod Standing

@@ -8,8 +8,8 @@ use lib.Bits.{bitXor}
 use lib.ListN.{length, getD, take, replicate}
 use lib.Seq.{take-all}
 use borrow.Author.Tests.{le-leb}
-use Rattle.standard.specs.Metered.{Metered, return}
-use Rattle.standard.specs.Hmac.{Key, xored, filled, key}
+use Rattle.standard.specs.Metered.{return}
+use Rattle.standard.specs.Hmac.{xored, filled, key}
 use Rattle.standard.specs.Sha256.{sha256}
 use Rattle.compression.proofs.Stores.{take-more}
 use Rattle.drbg_hmac.specs.Keys.{ready}

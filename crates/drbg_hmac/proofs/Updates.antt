@@ -1,6 +1,6 @@
 -- HMAC_DRBG's update as two halves that differ in the separator. Assumes nothing.
 use mathlib.Core.Path.{_≡_, refl, ap, _∙_}
-use mathlib.Core.List.{List, [], _∷_}
+use mathlib.Core.List.{List}
 use Prim.Native.Nat.{ℕ, _+_, _/_, _<_}
 use native.Mathlib.Nat.{add-zero}
 use native.Mathlib.Omega.{arith}
@@ -14,14 +14,8 @@ use Rattle.standard.specs.Sha256.{sha256}
 use Rattle.standard.proofs.Counts.{half-update-blocks, hmac-blocks}
 use Rattle.standard.proofs.Lengths.{length-filled, length-hmac, length-rekey}
 use Rattle.standard.proofs.Strings.{ifNull-nil, ifNull-some}
+use Rattle.drbg_shared.proofs.Metered.{same-metered, empty}
 use Rattle.drbg_hmac.specs.Keys.{ready, keyed, half}
-
-pub same-metered : {A : Type 0} {m n : Metered A} → m .value ≡ n .value → m .blocks ≡ n .blocks → m ≡ n
-same-metered p q = λ i. record { value = p i; blocks = q i }
-
-pub empty : (s : List ℕ) → length s ≡ 0 → s ≡ []
-empty [] h = refl
-empty (b ∷ s) h = absurd (omega arith)
 
 pub update-halves : (d : List ℕ) (u : Keyed) → update sha256 d u ≡ (half 0x00 d u >>= λ u. ifNull d (return u) (half 0x01 d u))
 unfolding update half
@@ -49,7 +43,8 @@ pub update-some : (d : List ℕ) (u w : Keyed) (n : ℕ) → 0 < length d → ha
     → update sha256 d u ≡ record { value = half 0x01 d w .value; blocks = n + half 0x01 d w .blocks }
 update-some d u w n some once = update-halves d u ∙ rw (once, ifNull-some d (return w) (half 0x01 d w) some)
 
-pub half-sized : (separator : ℕ) (d : List ℕ) (u : Keyed) (K v : List ℕ) (n : ℕ) → record { value = keyed K v; blocks = n } ≡ half separator d u
+pub half-sized : (separator : ℕ) (d : List ℕ) (u : Keyed) (K v : List ℕ) (n : ℕ)
+    → record { value = keyed K v; blocks = n } ≡ half separator d u
     → (length K ≡ 32) × (length v ≡ 32)
 unfolding half
 half-sized separator d u K v n e = (

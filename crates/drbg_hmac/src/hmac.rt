@@ -1,9 +1,8 @@
 // FIPS 198-1: HMAC under a key of 32 bytes.
-use crate::joined;
 use compression::digest;
 use compression::rounds;
+use drbg_shared::joined;
 use sha256::running::Digest;
-use sha256::running::Running;
 ghost use mathlib.Core.Path.{_≡_};
 ghost use mathlib.Core.List.{_∷_, _++_};
 ghost use Prim.Native.Nat.{_≤_};
@@ -12,7 +11,8 @@ ghost use Rattle.standard.specs.Hash.{padding, hash};
 ghost use Rattle.standard.specs.Hmac.{xored, filled, hmac};
 ghost use Rattle.standard.specs.Sha256.{sha256};
 ghost use Rattle.sha256.specs.Values.{digestOf};
-ghost use Rattle.drbg_hmac.specs.Keys.{ready, costing};
+ghost use Rattle.drbg_shared.specs.Costs.{costing};
+ghost use Rattle.drbg_hmac.specs.Keys.{ready};
 
 // Table 1, steps 4 and 7: the key, zeros behind it, each byte xored with the pad's.
 fn pad_block(key: [u8; 32], pad: u8) -> [u8; 64]
@@ -53,21 +53,22 @@ pub fn hmac_of(key: [u8; 32], v: [u8; 32]) -> [u8; 32]
     hash_behind(pad_block(key, 0x5c), inner)
 }
 
-// HMAC (key, v ‖ separator ‖ entropy ‖ nonce ‖ personalization), the strings read through as one.
+// HMAC (key, v ‖ separator ‖ first ‖ second ‖ third), the strings read through as one.
 pub fn hmac_of_all<'a>(
     key: [u8; 32],
     v: [u8; 32],
     separator: u8,
-    entropy: &'a [u8],
-    nonce: &'a [u8],
-    personalization: &'a [u8],
+    first: &'a [u8],
+    second: &'a [u8],
+    third: &'a [u8],
 ) -> Digest
-    requires { ⌜ (length (now entropy) ≤ 1024) × (length (now nonce) ≤ 1024) × (length (now personalization) ≤ 1024) ⌝ }
-    ensures { λ r. ⌜ digestOf r ≡ hmac sha256 (ready key) (v ++ (separator ∷ (now (entropy .entry) ++ (now (nonce .entry) ++ now (personalization .entry))))) ⌝ }
+    requires { ⌜ (length (now first) ≤ 1024) × (length (now second) ≤ 1024) × (length (now third) ≤ 1024) ⌝ }
+    ensures { λ r. ⌜ digestOf r
+        ≡ hmac sha256 (ready key) (v ++ (separator ∷ (now (first .entry) ++ (now (second .entry) ++ now (third .entry))))) ⌝ }
 {
     let inner_pad = pad_block(key, 0x36);
     let mark = [separator];
-    let inner = joined::hash_joined(&inner_pad, &v, &mark, entropy, nonce, personalization);
+    let inner = joined::hash_joined(&inner_pad, &v, &mark, first, second, third);
     let bytes = inner.bytes;
     let outer = hash_behind(pad_block(key, 0x5c), bytes);
     Digest {

@@ -1,6 +1,6 @@
 // SP 800-90A §10.1.2: HMAC_DRBG over SHA-256.
 use crate::hmac;
-use crate::output;
+use drbg_shared::output;
 ghost use mathlib.Core.Path.{_≡_};
 ghost use mathlib.Core.List.{_++_};
 ghost use Prim.Native.Nat.{_+_, _≤_};
@@ -29,14 +29,14 @@ fn half_update<'a>(
     key: [u8; 32],
     v: [u8; 32],
     separator: u8,
-    entropy: &'a [u8],
-    nonce: &'a [u8],
-    personalization: &'a [u8],
+    first: &'a [u8],
+    second: &'a [u8],
+    third: &'a [u8],
 ) -> Updated
-    requires { ⌜ (length (now entropy) ≤ 1024) × (length (now nonce) ≤ 1024) × (length (now personalization) ≤ 1024) ⌝ }
-    ensures { λ r. ⌜ updatedOf r ≡ half separator (now (entropy .entry) ++ (now (nonce .entry) ++ now (personalization .entry))) (keyed key v) ⌝ }
+    requires { ⌜ (length (now first) ≤ 1024) × (length (now second) ≤ 1024) × (length (now third) ≤ 1024) ⌝ }
+    ensures { λ r. ⌜ updatedOf r ≡ half separator (now (first .entry) ++ (now (second .entry) ++ now (third .entry))) (keyed key v) ⌝ }
 {
-    let mac = hmac::hmac_of_all(key, v, separator, entropy, nonce, personalization);
+    let mac = hmac::hmac_of_all(key, v, separator, first, second, third);
     let next = mac.bytes;
     let w = hmac::hmac_of(next, v);
     Updated {
@@ -46,25 +46,25 @@ fn half_update<'a>(
     }
 }
 
-// §10.1.2.2
+// §10.1.2.2, with the three strings as the provided data.
 pub fn update_all<'a>(
     key: [u8; 32],
     v: [u8; 32],
-    entropy: &'a [u8],
-    nonce: &'a [u8],
-    personalization: &'a [u8],
+    first: &'a [u8],
+    second: &'a [u8],
+    third: &'a [u8],
 ) -> Updated
-    requires { ⌜ (length (now entropy) ≤ 1024) × (length (now nonce) ≤ 1024) × (length (now personalization) ≤ 1024) ⌝ }
-    ensures { λ r. ⌜ updatedOf r ≡ update sha256 (now (entropy .entry) ++ (now (nonce .entry) ++ now (personalization .entry))) (keyed key v) ⌝ }
+    requires { ⌜ (length (now first) ≤ 1024) × (length (now second) ≤ 1024) × (length (now third) ≤ 1024) ⌝ }
+    ensures { λ r. ⌜ updatedOf r ≡ update sha256 (now (first .entry) ++ (now (second .entry) ++ now (third .entry))) (keyed key v) ⌝ }
 {
-    let once = half_update(key, v, 0, entropy, nonce, personalization);
-    let provided = entropy.len() + nonce.len() + personalization.len();
+    let once = half_update(key, v, 0, first, second, third);
+    let provided = first.len() + second.len() + third.len();
     if provided == 0 {
         return once;
     }
     let k = once.key;
     let w = once.v;
-    let twice = half_update(k, w, 1, entropy, nonce, personalization);
+    let twice = half_update(k, w, 1, first, second, third);
     let next = twice.key;
     let last = twice.v;
     Updated {
@@ -77,7 +77,8 @@ pub fn update_all<'a>(
 // §10.1.2.5, step 2
 pub fn refreshed(key: [u8; 32], v: [u8; 32], additional: &[u8]) -> Updated
     requires { ⌜ length (now additional) ≤ 1024 ⌝ }
-    ensures { λ r. ⌜ updatedOf r ≡ ifNull (now (additional .entry)) (return (keyed key v)) (update sha256 (now (additional .entry)) (keyed key v)) ⌝ }
+    ensures { λ r. ⌜ updatedOf r
+        ≡ ifNull (now (additional .entry)) (return (keyed key v)) (update sha256 (now (additional .entry)) (keyed key v)) ⌝ }
 {
     if additional.len() == 0 {
         return Updated { key, v, blocks: 0 };
@@ -89,7 +90,8 @@ pub fn refreshed(key: [u8; 32], v: [u8; 32], additional: &[u8]) -> Updated
 // §10.1.2.5, steps 3 to 5: the lent output is filled in place.
 pub fn output_filled(key: [u8; 32], v: [u8; 32], out: &mut [u8]) -> Output
     requires { ⌜ length (now out) ≤ 65536 ⌝ }
-    ensures { λ r. ⌜ outputOf r (now (out .exit)) ≡ drawnOut (outputTurns sha256 (ready key) v (ceiling (length (now (out .entry))) 32)) (length (now (out .entry))) ⌝ }
+    ensures { λ r. ⌜ outputOf r (now (out .exit))
+        ≡ drawnOut (outputTurns sha256 (ready key) v (ceiling (length (now (out .entry))) 32)) (length (now (out .entry))) ⌝ }
 {
     let mut w = v;
     let mut at = 0;

@@ -4,7 +4,7 @@ use mathlib.Core.Bool.{Bool, true, false, not}
 use Prim.Native.Nat.{ℕ, _%_, _^_, _<_}
 use native.Mathlib.Omega.{arith}
 use borrow.Author.Tests.{not-true, not-false}
-use Rattle.drbg.specs.declared.generator.Generator.{Generator}
+use Rattle.drbg_shared.specs.declared.generator.Generator.{Generator}
 use Rattle.slots.specs.Layout.{lastSerial, slotAt, Table}
 use Rattle.slots.specs.Sound.{sound}
 use Rattle.slots.specs.Handle.{slotOf, lookUp, named}

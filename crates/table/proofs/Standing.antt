@@ -15,8 +15,9 @@ use Rattle.standard.specs.State.{State}
 use Rattle.standard.specs.Sha256.{sha256}
 use Rattle.standard.specs.Functions.{Mechanism, HMAC-DRBG, Hash-DRBG}
 use Rattle.standard.specs.Lengths.{Sized, stateBytes}
-use Rattle.drbg.specs.Generator.{mechanismOf, stateOf, field, standing}
-use Rattle.drbg.specs.declared.generator.Generator.{Generator}
+use Rattle.drbg_shared.specs.Generator.{stateOf, field, standing}
+use Rattle.drbg.specs.Mechanism.{mechanismOf}
+use Rattle.drbg_shared.specs.declared.generator.Generator.{Generator}
 use Rattle.slots.specs.Layout.{freeSlot, withSlot, lastSerial, withLastSerial, Table}
 use Rattle.slots.specs.Sound.{allZero, sound}
 use Rattle.slots.specs.Handle.{slotOf, names}

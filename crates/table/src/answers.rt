@@ -1,6 +1,6 @@
 // What a call on bytes hands back beside the bytes.
-use drbg::generator::Generator;
-use drbg::generator::Served;
+use drbg_shared::generator::Generator;
+use drbg_shared::generator::Served;
 use slots::layout;
 use slots::slot::Slot;
 ghost use Rattle.slots.specs.Sizes.{tableSize};

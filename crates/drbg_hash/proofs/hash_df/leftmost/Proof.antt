@@ -1,4 +1,4 @@
--- One behind the other. Assumes nothing.
+-- The first hash, then as much of the second as fills 55 bytes. Assumes nothing.
 use mathlib.Core.Path.{refl, sym}
 use native.Mathlib.Omega.{arith}
 use lib.ListN.{replicate}
@@ -18,8 +18,13 @@ copy-requires-2 c κs =
 
 returns : tie.Need-returns
 returns c =
-    let a = c .before .before .before .before .before .before .before .before .args in
-    pasted-both (replicate 55 0) _ _ (a .t1) (a .t2) refl (omega arith) (omega arith) (c .before .before .before .before .before .copy .ensures) (c .before .copy2 .ensures)
+    let second = c .before in
+    let first = second .before .before .before .before in
+    let a = first .before .before .before .args in
+    pasted-both (replicate 55 0) _ _ (a .t1) (a .t2) refl (omega arith) (omega arith) (first .copy .ensures) (second .copy2 .ensures)
 
 pub leftmost-spec : {M : Type 1} → statement M
-leftmost-spec = tie.close (tie.spec (λ c. search needs) (λ c. search needs) (λ c κs. search needs) (λ c. search needs) (λ c. search needs) slice-aggregate-copy-4 copy-requires-2 returns)
+leftmost-spec =
+    tie.close
+    (tie.spec (λ c. search needs) (λ c. search needs) (λ c κs. search needs) (λ c. search needs) (λ c. search needs)
+    slice-aggregate-copy-4 copy-requires-2 returns)

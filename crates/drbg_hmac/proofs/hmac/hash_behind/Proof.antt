@@ -1,22 +1,28 @@
--- Two blocks. Assumes nothing.
+-- A pad block and 32 bytes are two blocks once they are padded (`hash-of-two`), and each is absorbed. Assumes nothing.
 use mathlib.Core.Path.{_≡_, sym, ap, ap₂, _∙_}
 use native.Mathlib.Omega.{arith}
 use Rattle.standard.specs.Hash.{compressed, digest}
 use Rattle.standard.specs.Sha256.{sha256}
 use Rattle.compression.specs.Values.{eightOf}
-use Rattle.drbg_hmac.specs.Keys.{costing}
-use Rattle.drbg_hmac.proofs.Short.{hash-of-two}
+use Rattle.drbg_shared.specs.Costs.{costing}
+use Rattle.drbg_shared.proofs.Short.{hash-of-two}
 use borrow.Author.Needs.{needs}
 use Rattle.drbg_hmac.proofs.hmac.hash_behind.Statement.{statement}
 use Rattle.drbg_hmac.proofs.hmac.hash_behind.Tie as tie
 
 returns : tie.Need-returns
 returns c =
-    let a = c .before .before .before .before .before .before .before .args in
-    let once : eightOf (c .before .before .before .compress .result) ≡ compressed sha256 (sha256 .initial) (a .t1) = c .before .before .before .compress .ensures ∙ ap (λ h. compressed sha256 h (a .t1)) (c .before .before .before .before .before .initial .ensures) in
-    ap (λ s. costing 2 s)
-    (c .bytes-of .ensures ∙ ap (digest sha256) (c .before .compress2 .ensures ∙ ap₂ (compressed sha256) once (c .before .before .before .before .before .before .last-block .ensures))) ∙
-    sym (hash-of-two (a .t1) (a .v) (omega arith) (omega arith))
+    let one = c .before .before .before in
+    let begun = one .before .before in
+    let last = begun .before in
+    let a = last .before .args in
+    let once : eightOf (one .compress .result) ≡ compressed sha256 (sha256 .initial) (a .t1) =
+    one .compress .ensures ∙ ap (λ h. compressed sha256 h (a .t1)) (begun .initial .ensures) in
+    let twice = c .before .compress2 .ensures ∙ ap₂ (compressed sha256) once (last .last-block .ensures) in
+    ap (λ s. costing 2 s) (c .bytes-of .ensures ∙ ap (digest sha256) twice) ∙ sym (hash-of-two (a .t1) (a .v) (omega arith) (omega arith))
 
 pub hash-behind-spec : {M : Type 1} → statement M
-hash-behind-spec = tie.close (tie.spec (λ c κs. search needs) (λ c κs. search needs) (λ c. search needs) (λ c κs. search needs) (λ c. search needs) (λ c κs. search needs) (λ c κs. search needs) returns)
+hash-behind-spec =
+    tie.close
+    (tie.spec (λ c κs. search needs) (λ c κs. search needs) (λ c. search needs) (λ c κs. search needs) (λ c. search needs)
+    (λ c κs. search needs) (λ c κs. search needs) returns)

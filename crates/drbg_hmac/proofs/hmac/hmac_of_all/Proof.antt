@@ -1,7 +1,8 @@
--- The inner hash, then the outer one. Assumes nothing.
-use Prim.Native.Nat.{_+_}
+-- The hash of all behind the inner pad, then the hash of that behind the outer one. Assumes of the strings that they are short, so
+-- that the count fits.
+use Prim.Native.Nat.{ℕ}
 use mathlib.Core.Path.{_≡_, sym, ap, _∙_}
-use mathlib.Core.List.{_∷_, _++_, append-assoc}
+use mathlib.Core.List.{List, _∷_, _++_}
 use native.Mathlib.Omega.{arith}
 use lib.ListN.{length-append}
 use Rattle.standard.specs.Hash.{hash}
@@ -13,22 +14,38 @@ use borrow.Author.Needs.{needs}
 use Rattle.drbg_hmac.proofs.hmac.hmac_of_all.Statement.{statement}
 use Rattle.drbg_hmac.proofs.hmac.hmac_of_all.Tie as tie
 
+abbrev start : tie.After-hash-joined → tie.Start
+start c = c .before .before .before .before .before .before .before .before
+
+-- what stands behind the inner pad
+abbrev text : (c : tie.After-hash-joined) → List ℕ
+text c =
+    let a = start c .args in
+    a .t2 ++ (a .separator ∷ (a .first .now ++ (a .second .now ++ a .third .now)))
+
+inner : (c : tie.After-hash-joined)
+    → digestOf (c .hash-joined .result) ≡ hash sha256 (c .before .before .before .before .pad-block .result ++ text c)
+inner c = c .hash-joined .ensures
+
 add-t20 : tie.Need-add-t20
 add-t20 c =
-    let joined = c .before .before .before .before .hash-joined in
-    record { fits = omega (arith, simp length-append at (ap (λ d. d .blocks) (joined .ensures) ∙ sha256-hash _), c .before .before .before .before .before .before .before .before .before .before .before .before .pre) }
+    let joined = c .before .before .before .before in
+    let s = start joined in
+    record { fits = omega (arith, simp length-append at (ap (λ d. d .blocks) (inner joined) ∙ sha256-hash _), s) }
 
 returns : tie.Need-returns
 unfolding hmac
 returns c =
-    let joined = c .before .before .before .before .hash-joined in
-    let pad = c .before .before .before .before .before .before .before .before .pad-block in
-    let a = c .before .before .before .before .before .before .before .before .before .before .before .before .args in
-    let inner : digestOf (joined .result) ≡ hash sha256 (pad .result ++ (a .t2 ++ (a .separator ∷ (a .entropy .now ++ (a .nonce .now ++ a .personalization .now))))) =
-    joined .ensures ∙ ap (hash sha256) (simp append-assoc) in
-    let inside : pad .result ≡ xored 0x36 (filled sha256 (a .key)) = pad .ensures in
-    let outside : c .before .before .pad-block2 .result ≡ xored 0x5c (filled sha256 (a .key)) = c .before .before .pad-block2 .ensures in
-    sym (rw (← inside, ← inner, ← outside, ← c .before .hash-behind .ensures))
+    let outer = c .before .before in
+    let joined = outer .before .before in
+    let pad = joined .before .before .before .before in
+    let key = start joined .args .key in
+    let inside : pad .pad-block .result ≡ xored 0x36 (filled sha256 key) = pad .pad-block .ensures in
+    let outside : outer .pad-block2 .result ≡ xored 0x5c (filled sha256 key) = outer .pad-block2 .ensures in
+    sym (rw (← inside, ← inner joined, ← outside, ← c .before .hash-behind .ensures))
 
 pub hmac-of-all-spec : {M : Type 1} → statement M
-hmac-of-all-spec = tie.close (tie.spec (λ c κs. search needs) (λ c. search needs) (λ c. search needs) (λ c. search needs) (λ c κs. search needs) (λ c κs. search needs) (λ c κs. search needs) add-t20 returns)
+hmac-of-all-spec =
+    tie.close
+    (tie.spec (λ c κs. search needs) (λ c. search needs) (λ c. search needs) (λ c. search needs) (λ c κs. search needs)
+    (λ c κs. search needs) (λ c κs. search needs) add-t20 returns)

@@ -1,4 +1,4 @@
--- The padding stands behind V from the start. Assumes nothing.
+-- The padding stands in the block from the start, and v is copied before it. Assumes nothing.
 use mathlib.Core.Path.{_∙_}
 use native.Mathlib.Omega.{arith}
 use Rattle.standard.specs.Strings.{bytesOf}
@@ -13,4 +13,6 @@ unfolding padding zeros bytesOf
 returns c = c .before .copy .ensures ∙ pasted _ (c .before .before .before .before .args .t1) 0 32 (omega arith)
 
 pub last-block-spec : {M : Type 1} → statement M
-last-block-spec = tie.close (tie.spec (λ c. search needs) (λ c. search needs) (λ c. search needs) (λ c. search needs) (λ c κs. search needs) returns)
+last-block-spec =
+    tie.close
+    (tie.spec (λ c. search needs) (λ c. search needs) (λ c. search needs) (λ c. search needs) (λ c κs. search needs) returns)

@@ -1,4 +1,4 @@
--- The first i bytes at each i; the pad stands behind them from the start. Assumes nothing.
+-- The first i bytes are xored after i turns; the pad, which zeros xor to, stands behind them from the start. Assumes nothing.
 use Prim.Native.Nat.{_-_, _≤_}
 use mathlib.Core.Path.{_≡_, sym, ap, ap₂, _∙_}
 use mathlib.Core.List.{[], _∷_, _++_}
@@ -45,4 +45,6 @@ returns c =
     sym (take-append-drop 32 (l .block)) ∙ ap₂ _++_ (rw all at (l .inv .3)) (l .inv .4) ∙ xored-filled (a .pad) (a .t1) (l .inv .2)
 
 pub pad-block-spec : {M : Type 1} → statement M
-pad-block-spec = tie.close (tie.spec Inv-loop μ-loop loop-holds (λ c. search needs) (λ c. search needs) (λ c. search needs) (λ c. search needs) loop-again returns)
+pad-block-spec =
+    tie.close
+    (tie.spec Inv-loop μ-loop loop-holds (λ c. search needs) (λ c. search needs) (λ c. search needs) (λ c. search needs) loop-again returns)

@@ -1,18 +1,21 @@
--- After each turn the output holds what fits of the hashes so far. Assumes nothing.
-use Prim.Native.Nat.{ℕ, _+_, _-_, _/_, _%_, _<_}
+-- After each turn the output holds what fits of the hashes so far, and w is the last of them. Assumes nothing.
+use Prim.Native.Nat.{ℕ, _+_, _-_, _/_, _%_, _<_, min}
 use mathlib.Core.Path.{_≡_, refl, sym, ap, ap₂, _∙_}
 use mathlib.Core.List.{List, _++_}
 use native.Mathlib.Omega.{arith}
 use lib.Dec.{lit<}
 use lib.ListN.{length, take}
-use lib.Seq.{take-nil, take-all}
+use lib.Seq.{paste, take-nil, take-all}
+use Rattle.standard.specs.Hmac.{hmac}
 use Rattle.standard.specs.HmacDrbg.{outputTurns}
 use Rattle.standard.specs.Sha256.{sha256}
 use Rattle.standard.proofs.Counts.{outputTurns-blocks}
 use Rattle.standard.proofs.Lengths.{length-outputTurns, length-filled}
+use Rattle.drbg_shared.specs.Costs.{costing}
 use Rattle.drbg_hmac.specs.Keys.{ready}
-use Rattle.drbg_hmac.proofs.Outputs.{turn-stored, turns-are, output-more}
-use Rattle.drbg_hmac.proofs.Updates.{same-metered}
+use Rattle.drbg_shared.proofs.Outputs.{turn-stored, turns-are}
+use Rattle.drbg_hmac.proofs.Turns.{output-more}
+use Rattle.drbg_shared.proofs.Metered.{same-metered}
 use borrow.Author.Needs.{needs}
 use Rattle.drbg_hmac.proofs.hmac_drbg.output_filled.Statement.{statement}
 use Rattle.drbg_hmac.proofs.hmac_drbg.output_filled.Tie as tie
@@ -35,19 +38,24 @@ loop-holds c = (search needs, search needs, search needs, search needs, sym (tak
 
 loop-again : tie.Need-loop-again Inv-loop μ-loop
 loop-again c =
-    let l = c .before .before .before .before .before .before .loop in
-    let a = c .before .before .before .before .before .before .before .before .args in
-    let next = c .before .before .before .before .hmac-of in
+    let stored = c .before .before in
+    let next = stored .before .before in
+    let l = next .before .before .loop in
+    let a = next .before .before .before .before .args in
+    let w = next .hmac-of .result in
     let turn : (l .at + 32) / 32 ≡ l .at / 32 + 1 = omega arith in
-    let more : made (a .key) (a .v) (l .at + 32) ≡ (made (a .key) (a .v) (l .at) .0 ++ next .result, next .result) =
+    let temp = made (a .key) (a .v) (l .at) .0 in
+    let hashed : costing 4 w ≡ hmac sha256 (ready (a .key)) (l .w) = next .hmac-of .ensures in
+    let more : made (a .key) (a .v) (l .at + 32) ≡ (temp ++ w, w) =
     ap (λ i. outputTurns sha256 (ready (a .key)) (a .v) i .value) turn ∙
-    (output-more (ready (a .key)) (a .v) (l .at / 32) (l .w) (next .result) 4 (l .inv .5) (next .ensures)) in
-    let size : length (made (a .key) (a .v) (l .at) .0) ≡ l .at = length-outputTurns sha256 (ready (a .key)) (a .v) (l .at / 32) ∙ omega arith in (
+    output-more (ready (a .key)) (a .v) (l .at / 32) (l .w) w 4 (l .inv .5) hashed in
+    let size : length temp ≡ l .at = length-outputTurns sha256 (ready (a .key)) (a .v) (l .at / 32) ∙ omega arith in
+    let put : stored .store .last .0 ≡ paste (l .out) (l .at) w (min 32 (length (l .out) - l .at)) = stored .store .ensures in (
       search needs,
       search needs,
       search needs,
       search needs,
-      turn-stored (made (a .key) (a .v) (l .at) .0) (next .result) (l .out) _ (l .at) _ more (l .inv .2) (omega arith) size (omega arith) (l .inv .4) (c .before .before .store .ensures),
+      turn-stored temp w (l .out) _ (l .at) _ more (l .inv .2) (omega arith) size (omega arith) (l .inv .4) put,
       sym (ap (λ t. t .1) more),
     )
 
@@ -57,11 +65,14 @@ returns c =
     let start = c .before .before .before in
     let a = start .args in
     let turns = turns-are (length (a .out .now)) (l .at) (l .inv .0) (omega arith) (l .inv .1) in
+    let one-block = length-filled sha256 (a .key) (omega (arith, start)) in
     sym
     (rw turns
-    (same-metered
-    (ap₂ (λ x y. (x, y)) (sym (l .inv .4) ∙ take-all (l .at) (l .out) (omega arith)) (sym (l .inv .5)))
-    (outputTurns-blocks sha256 (lit< tt) (ready (a .key)) (a .v) (l .at / 32) (length-filled sha256 (a .key) (omega (arith, start))) (omega (arith, start)))))
+    (same-metered (ap₂ (λ x y. (x, y)) (sym (l .inv .4) ∙ take-all (l .at) (l .out) (omega arith)) (sym (l .inv .5)))
+    (outputTurns-blocks sha256 (lit< tt) (ready (a .key)) (a .v) (l .at / 32) one-block (omega (arith, start)))))
 
 pub output-filled-spec : {M : Type 1} → statement M
-output-filled-spec = tie.close (tie.spec Inv-loop μ-loop loop-holds (λ c κs. search needs) (λ c κs. search needs) (λ c. search needs) (λ c. search needs) loop-again (λ c. search needs) (λ c. search needs) returns)
+output-filled-spec =
+    tie.close
+    (tie.spec Inv-loop μ-loop loop-holds (λ c κs. search needs) (λ c κs. search needs) (λ c. search needs) (λ c. search needs) loop-again
+    (λ c. search needs) (λ c. search needs) returns)

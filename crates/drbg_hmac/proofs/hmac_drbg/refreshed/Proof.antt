@@ -1,4 +1,4 @@
--- Nothing without additional input, else an update. Assumes nothing.
+-- Nothing is done without additional input, and an update with it; the empty strings behind it change nothing. Assumes nothing.
 use Prim.Native.Nat.{_<_}
 use mathlib.Core.Path.{sym, ap, _∙_}
 use mathlib.Core.List.{append-nil}
@@ -8,7 +8,7 @@ use Rattle.standard.specs.HmacDrbg.{update}
 use Rattle.standard.specs.Sha256.{sha256}
 use Rattle.standard.proofs.Strings.{ifNull-nil, ifNull-some}
 use Rattle.drbg_hmac.specs.Keys.{keyed}
-use Rattle.drbg_hmac.proofs.Updates.{empty}
+use Rattle.drbg_shared.proofs.Metered.{empty}
 use borrow.Author.Needs.{needs}
 use Rattle.drbg_hmac.proofs.hmac_drbg.refreshed.Statement.{statement}
 use Rattle.drbg_hmac.proofs.hmac_drbg.refreshed.Tie as tie
@@ -20,8 +20,9 @@ returns c =
 
 returns-2 : tie.Need-returns-2
 returns-2 c =
-    let a = c .before .before .before .before .args in
-    let some : 0 < length (a .additional .now) = omega (arith, c .before .before .if1 .left) in
+    let tested = c .before .before in
+    let a = tested .before .before .args in
+    let some : 0 < length (a .additional .now) = omega (arith, tested .if1 .left) in
     c .update-all .ensures ∙
     ap (λ d. update sha256 d (keyed (a .key) (a .v))) (append-nil (a .additional .now)) ∙
     sym (ifNull-some (a .additional .now) _ _ some)

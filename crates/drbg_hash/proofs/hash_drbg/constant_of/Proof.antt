@@ -1,0 +1,22 @@
+-- The derivation from a byte 00 and V, with nothing behind them; a string of 56 bytes, so four blocks. Assumes nothing.
+use mathlib.Core.Path.{_≡_, ap, _∙_}
+use mathlib.Core.List.{[], _∷_, _++_, append-nil}
+use native.Mathlib.Omega.{arith}
+use Rattle.standard.specs.HashDf.{hashDf}
+use Rattle.standard.specs.Sha256.{sha256}
+use Rattle.drbg_hash.specs.Seeds.{derivedOf, constantOf}
+use Rattle.drbg_hash.proofs.Derivations.{constant-count}
+use borrow.Author.Needs.{needs}
+use Rattle.drbg_hash.proofs.hash_drbg.constant_of.Statement.{statement}
+use Rattle.drbg_hash.proofs.hash_drbg.constant_of.Tie as tie
+
+returns : tie.Need-returns
+unfolding constantOf
+returns c =
+    let v = c .before .before .before .before .args .t1 in
+    let derived : derivedOf (c .derive .result) ≡ hashDf sha256 (0x00 ∷ (v ++ [])) 55 = c .derive .ensures in
+    let is : derivedOf (c .derive .result) ≡ constantOf v = derived ∙ ap (λ s. hashDf sha256 (0x00 ∷ s) 55) (append-nil v) in
+    (is, ap (λ m. m .blocks) is ∙ constant-count v (omega arith))
+
+pub constant-of-spec : {M : Type 1} → statement M
+constant-of-spec = tie.close (tie.spec (λ c. search needs) (λ c. search needs) (λ c. search needs) (λ c κs. search needs) returns)

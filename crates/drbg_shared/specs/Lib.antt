@@ -1,0 +1,3 @@
+-- What the contracts of both mechanisms cite, over the definitions of `standard`.
+pub mod Costs
+pub mod Generator
