@@ -138,6 +138,18 @@ uint64_t purangsa_close(uint8_t *table, size_t table_length, uint64_t handle, ui
  * 1, 2. */
 uint64_t purangsa_inquire(const uint8_t *table, size_t table_length, uint64_t handle, uint64_t *blocks, uint64_t *value);
 
+/* Known-answer tests (SP 800-90A, 11.3) of opening, reseed, draw and fresh draw, in the very code that the functions above run, on a
+ * table of its own. 0: every case came out as it must. Else the number of the first that did not:
+ *
+ *     1  HMAC_DRBG: NIST's case of an opening, a reseed and two draws     3  HMAC_DRBG: NIST's case of an opening and two fresh draws
+ *     2  Hash_DRBG: the same                                              4  Hash_DRBG: the same
+ *     5  a refused draw: answered 2, and no byte of table or output is changed
+ *
+ * Promised, and proved: it is the number of the first case whose definition does not give the stored bytes, and 0 where each gives
+ * them. Each does: NIST's cases, run where the library is proved, show it, though no theorem says it. So any number but 0 is the fault
+ * of the machine, or of what compiled, linked or changed the code: draw nothing. It takes a tenth of a millisecond. */
+uint64_t purangsa_self_test(void);
+
 /* Clears what the call before it has left behind: PURANGSA_WIPED bytes of dead stack below its caller's frame, more than the deepest
  * call takes, and the registers that a call need not keep, the vector registers in their whole width among them. Call it after each call,
  * from the same function: from one further in it would begin below a part of what was left, from one further out it might end above a

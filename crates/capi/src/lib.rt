@@ -1,4 +1,5 @@
-// The library that C and Rust link: the six calls on a table in the caller's 2,148 bytes. include/purangsa.h says what each promises.
+// The library that C and Rust link: the six calls on a table in the caller's 2,148 bytes, and a test of them. include/purangsa.h says what
+// each promises.
 use table::answers::Told;
 use table::calls;
 ghost use mathlib.Core.Path.{_≡_};
@@ -8,6 +9,7 @@ ghost use lib.Dec.{eqb};
 ghost use Rattle.table.specs.Calls.{opens, reseeds, draws, freshDraws, closes, inquires};
 ghost use Rattle.table.specs.OnBytes.{inBytes};
 ghost use Rattle.capi.specs.Left.{leaves};
+ghost use Rattle.self_test.specs.SelfTest.{firstDiffering};
 
 // What a call tells goes out by the result and the two pointers.
 fn tell(told: Told, blocks: &mut u64, value: &mut u64) -> u64
@@ -143,4 +145,12 @@ pub extern "C" fn purangsa_inquire(
         (now (table .entry)) ⌝ }
 {
     tell(calls::inquire(table, handle), blocks, value)
+}
+
+// SP 800-90A §11.3, known-answer tests: 0, or the number of the first case that differs.
+#[no_mangle]
+pub extern "C" fn purangsa_self_test() -> u64
+    ensures { λ r. ⌜ r ≡ firstDiffering ⌝ }
+{
+    self_test::self_test()
 }

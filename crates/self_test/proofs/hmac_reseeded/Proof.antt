@@ -1,0 +1,25 @@
+-- The code's strings are the definition's: computed. Assumes nothing.
+use mathlib.Core.Path.{refl}
+use Rattle.standard.specs.Strings.{bytesOf}
+use Rattle.self_test.specs.Published.{hmacReseeded}
+use Rattle.self_test.proofs.hmac_reseeded.Statement.{statement}
+use Rattle.self_test.proofs.hmac_reseeded.Tie as tie
+
+returns : tie.Need-returns
+unfolding bytesOf hmacReseeded
+returns c = c .reseeded .ensures
+
+pub hmac-reseeded-spec : {M : Type 1} → statement M
+hmac-reseeded-spec =
+    tie.close
+    (tie.spec
+    (λ c. refl)
+    (λ c. refl)
+    (λ c. refl)
+    (λ c. refl)
+    (λ c. refl)
+    (λ c. refl)
+    (λ c. refl)
+    (λ c. refl)
+    (λ c κs. tt)
+    returns)
