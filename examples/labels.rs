@@ -37,6 +37,10 @@ fn draw_label(table: &mut Table, handle: Handle) {
 }
 
 fn main() -> Result<(), Refusal> {
+    if let Err(case) = purangsa::self_test() {
+        eprintln!("the library's test of itself fails in case {case}: nothing is drawn");
+        std::process::exit(1);
+    }
     let mut table = Table::new();
 
     let opened = table.open(&Opening {

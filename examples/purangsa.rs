@@ -51,7 +51,18 @@ mod c {
             table: *const u8, table_length: usize, handle: u64,
             blocks: *mut u64, value: *mut u64,
         ) -> u64;
+        pub fn purangsa_self_test() -> u64;
         pub fn purangsa_wipe();
+    }
+}
+
+/// Known-answer tests (SP 800-90A, 11.3): `Err` holds the number of the first case that came out wrong, which is the fault of the
+/// machine, or of what compiled, linked or changed the library: draw nothing then.
+pub fn self_test() -> Result<(), u64> {
+    // it takes no pointer, and asks nothing of its caller
+    match unsafe { c::purangsa_self_test() } {
+        0 => Ok(()),
+        case => Err(case),
     }
 }
 

@@ -163,6 +163,7 @@ fn main() {
         return;
     }
     let mut tally = Tally::default();
+    tally.note(purangsa::self_test().is_ok(), "the library tests itself");
     wipes(&mut tally);
     for mechanism in [Mechanism::HmacDrbg, Mechanism::HashDrbg] {
         let ended = calls(&mut tally, mechanism);
