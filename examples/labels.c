@@ -47,6 +47,11 @@ int main(void)
 {
     uint64_t answer, blocks, handle, none;
 
+    if (purangsa_self_test() != 0) {
+        fprintf(stderr, "labels: the library's test of itself fails: nothing is drawn\n");
+        return 1;
+    }
+
     /* Strength 128, at most 3 draws from one reseed to the next, no right to fresh draws. */
     answer = purangsa_open(table, sizeof table, PURANGSA_HMAC_DRBG, 128, 3, 0, LENT(entropy), LENT(nonce), LENT(personalization),
                            &blocks, &handle);
