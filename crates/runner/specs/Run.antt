@@ -1,20 +1,20 @@
 -- What running a book prints: a line for each record's answer, from a fresh table, and `book N` for what can't be read.
 -- The table stands in 2,148 bytes, all zero at first. A draw here lends zeros; what is printed tells nothing of what was lent
 -- (proofs/Lent.antt).
-use Rattle.slots.specs.Sizes.{tableSize}
-use Prim.Native.Nat.{ℕ}
+use Prim.Native.Nat.{ℕ, _≤_}
 use mathlib.Core.Path.{_≡_}
 use mathlib.Core.List.{List, [], _++_}
 use lib.Dec.{eqb}
-use lib.ListN.{replicate}
-use Rattle.table.specs.OnBytes.{Done}
+use lib.ListN.{take, replicate}
+use Rattle.slots.specs.Sizes.{tableSize}
 use Rattle.table.specs.Calls.{Call, opens, reseeds, draws, freshDraws, closes, inquires}
-use Rattle.table.specs.OnBytes.{inBytes}
+use Rattle.table.specs.OnBytes.{Done, inBytes}
 use Rattle.book.specs.Lines.{line, badLine}
 use Rattle.book.specs.Records as records
 use Rattle.book.specs.Records.{Meaning, meaningOf, kindOf}
 use Rattle.book.specs.Writing.{Appends}
 use Rattle.book.specs.Books.{Contents, more, end, stopped, contentsAt, contentsOf}
+use Rattle.runner.specs.declared.Answered.{Answered}
 
 abbrev pub callOf : Meaning → Call
 callOf (records.opens mechanism strength interval fresh entropy nonce personalization) =
@@ -35,6 +35,12 @@ lineFor table m = lineOf (kindOf m) (inBytes (callOf m) table)
 
 unfoldable pub tableAfter : (table : List ℕ) → Meaning → List ℕ
 tableAfter table m = inBytes (callOf m) table .table
+
+-- a record was answered: its line is the record's, and the table is the next one
+pub record Answers (table : List ℕ) (m : Meaning) (a : Answered) (out next : List ℕ) : Type 0 where
+  pub few : a .drawn ≤ 65536
+  pub says : line (a .kind) (a .told .number) (a .told .blocks) (a .told .value) (take (a .drawn) out) ≡ lineFor table m
+  pub moves : next ≡ tableAfter table m
 
 -- a record was run: its line stands in the text at a place, and the table is the next one
 pub record Ran (table : List ℕ) (m : Meaning) (old : List ℕ) (at end : ℕ) (text next : List ℕ) : Type 0 where

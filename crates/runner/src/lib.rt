@@ -5,100 +5,30 @@ use book::record;
 use book::record::Record;
 use book::record::RecordAt;
 use book::string;
-use book::string::Part;
 use libc::STDOUT_FILENO;
 use slots::sizes;
 use table::answers::Told;
 use table::calls;
 ghost use mathlib.Core.Path.{_≡_};
-ghost use mathlib.Core.List.{[], _++_};
+ghost use mathlib.Core.List.{_++_};
 ghost use Prim.Native.Nat.{_+_, _≤_, _<_};
 ghost use lib.ListN.{length, take, replicate};
-ghost use Rattle.book.specs.Strings.{bytesOf};
-ghost use Rattle.book.specs.Lines.{line};
-ghost use Rattle.book.specs.Records.{draws, freshDraws, Fits, PartsIn, meaningOf};
-ghost use Rattle.book.specs.Writing.{Appends};
+ghost use Rattle.book.specs.Records.{Fits, PartsIn, meaningOf};
 ghost use Rattle.slots.specs.Sizes.{tableSize};
-ghost use Rattle.runner.specs.Run.{Ran, left, printedOf};
+ghost use Rattle.runner.specs.Run.{Answers, Ran, left, printedOf};
 
-// Each of these appends its record's line at a place of the text, and says where it ends.
-fn run_draw(
-    table: &mut [u8],
-    book: &[u8],
-    handle: u64,
-    strength: u64,
-    request: u64,
-    additional: Part,
-    out: &mut [u8],
-    text: &mut [u8],
-    at: usize,
-) -> usize
-    requires { ⌜ (additional .start + additional .length ≤ length (now book)) × (request ≤ 65536) ⌝ }
-    requires { ⌜ (length (now out) ≡ 65536) × (at + 131156 ≤ length (now text)) ⌝ }
-    ensures { λ end. ⌜ Ran (now (table .entry)) (draws handle strength request (bytesOf (now (book .entry)) additional))
-        (now (text .entry)) at end (now (text .exit)) (now (table .exit)) ⌝ }
-{
-    let n = request as usize;
-    let told = calls::draw(
-        table,
-        handle,
-        strength,
-        &mut out[..n],
-        string::bytes_of(book, additional),
-    );
-    line::line(text, at, 3, told.number, told.blocks, told.value, &out[..n])
+// How a record was answered: its kind, what its call told, and how many bytes it drew to the front of the output.
+pub struct Answered {
+    pub kind: u64,
+    pub told: Told,
+    pub drawn: usize,
 }
 
-fn run_fresh_draw(
-    table: &mut [u8],
-    book: &[u8],
-    handle: u64,
-    strength: u64,
-    request: u64,
-    entropy: Part,
-    additional: Part,
-    out: &mut [u8],
-    text: &mut [u8],
-    at: usize,
-) -> usize
-    requires { ⌜ (entropy .start + entropy .length ≤ length (now book)) × (additional .start + additional .length ≤ length (now book)) × (request ≤ 65536) ⌝ }
-    requires { ⌜ (length (now out) ≡ 65536) × (at + 131156 ≤ length (now text)) ⌝ }
-    ensures { λ end. ⌜ Ran (now (table .entry))
-        (freshDraws handle strength request (bytesOf (now (book .entry)) entropy) (bytesOf (now (book .entry)) additional))
-        (now (text .entry)) at end (now (text .exit)) (now (table .exit)) ⌝ }
-{
-    let n = request as usize;
-    let lent = string::bytes_of(book, entropy);
-    let told = calls::fresh_draw(
-        table,
-        handle,
-        strength,
-        &mut out[..n],
-        lent,
-        string::bytes_of(book, additional),
-    );
-    line::line(text, at, 4, told.number, told.blocks, told.value, &out[..n])
-}
-
-// A call that draws nothing has told all.
-fn told_line(text: &mut [u8], at: usize, kind: u64, told: Told) -> usize
-    requires { ⌜ at + 84 ≤ length (now text) ⌝ }
-    ensures { λ end. ⌜ Appends (now (text .entry)) at (line kind (told .number) (told .blocks) (told .value) []) end (now (text .exit)) ⌝ }
-{
-    line::line(text, at, kind, told.number, told.blocks, told.value, b"")
-}
-
-fn run_record(
-    table: &mut [u8],
-    book: &[u8],
-    r: Record,
-    out: &mut [u8],
-    text: &mut [u8],
-    at: usize,
-) -> usize
+// The record's call, on the table as the calls before it left it.
+fn answer(table: &mut [u8], book: &[u8], r: Record, out: &mut [u8]) -> Answered
     requires { ⌜ Fits (meaningOf (now book) r) × PartsIn (now book) r ⌝ }
-    requires { ⌜ (length (now out) ≡ 65536) × (at + 131156 ≤ length (now text)) ⌝ }
-    ensures { λ end. ⌜ Ran (now (table .entry)) (meaningOf (now (book .entry)) r) (now (text .entry)) at end (now (text .exit)) (now (table .exit)) ⌝ }
+    requires { ⌜ length (now out) ≡ 65536 ⌝ }
+    ensures { λ a. ⌜ Answers (now (table .entry)) (meaningOf (now (book .entry)) r) a (now (out .exit)) (now (table .exit)) ⌝ }
 {
     match r {
         Record::Open {
@@ -122,7 +52,11 @@ fn run_record(
                 once,
                 string::bytes_of(book, personalization),
             );
-            told_line(text, at, 1, told)
+            Answered {
+                kind: 1,
+                told,
+                drawn: 0,
+            }
         }
         Record::Reseed {
             handle,
@@ -131,7 +65,11 @@ fn run_record(
         } => {
             let lent = string::bytes_of(book, entropy);
             let told = calls::reseed(table, handle, lent, string::bytes_of(book, additional));
-            told_line(text, at, 2, told)
+            Answered {
+                kind: 2,
+                told,
+                drawn: 0,
+            }
         }
         Record::Draw {
             handle,
@@ -139,17 +77,19 @@ fn run_record(
             request,
             additional,
         } => {
-            run_draw(
+            let n = request as usize;
+            let told = calls::draw(
                 table,
-                book,
                 handle,
                 strength,
-                request,
-                additional,
-                out,
-                text,
-                at,
-            )
+                &mut out[..n],
+                string::bytes_of(book, additional),
+            );
+            Answered {
+                kind: 3,
+                told,
+                drawn: n,
+            }
         }
         Record::FreshDraw {
             handle,
@@ -158,22 +98,67 @@ fn run_record(
             entropy,
             additional,
         } => {
-            run_fresh_draw(
+            let n = request as usize;
+            let lent = string::bytes_of(book, entropy);
+            let told = calls::fresh_draw(
                 table,
-                book,
                 handle,
                 strength,
-                request,
-                entropy,
-                additional,
-                out,
-                text,
-                at,
-            )
+                &mut out[..n],
+                lent,
+                string::bytes_of(book, additional),
+            );
+            Answered {
+                kind: 4,
+                told,
+                drawn: n,
+            }
         }
-        Record::Close { handle } => told_line(text, at, 5, calls::close(table, handle)),
-        Record::Inquire { handle } => told_line(text, at, 6, calls::inquire(table, handle)),
+        Record::Close { handle } => {
+            let told = calls::close(table, handle);
+            Answered {
+                kind: 5,
+                told,
+                drawn: 0,
+            }
+        }
+        Record::Inquire { handle } => {
+            let told = calls::inquire(table, handle);
+            Answered {
+                kind: 6,
+                told,
+                drawn: 0,
+            }
+        }
     }
+}
+
+// Appends a record's line at a place of the text, and says where it ends.
+fn run_record(
+    table: &mut [u8],
+    book: &[u8],
+    r: Record,
+    out: &mut [u8],
+    text: &mut [u8],
+    at: usize,
+) -> usize
+    requires { ⌜ Fits (meaningOf (now book) r) × PartsIn (now book) r ⌝ }
+    requires { ⌜ (length (now out) ≡ 65536) × (at + 131156 ≤ length (now text)) ⌝ }
+    ensures { λ end. ⌜ Ran (now (table .entry)) (meaningOf (now (book .entry)) r)
+        (now (text .entry)) at end (now (text .exit)) (now (table .exit)) ⌝ }
+{
+    let a = answer(table, book, r, out);
+    let told = a.told;
+    let n = a.drawn;
+    line::line(
+        text,
+        at,
+        a.kind,
+        told.number,
+        told.blocks,
+        told.value,
+        &out[..n],
+    )
 }
 
 // Where the lines end in the text, and where the next record begins in the book.
