@@ -19,20 +19,20 @@ Inv-loop book table₀ out₀ text₀ piece₀ table out text piece =
 abbrev μ-loop : tie.MeasureT-loop
 μ-loop book table₀ out₀ text₀ piece₀ table out text piece = length book - piece .next
 
+-- an array of n zeros, as the code makes it
+made : (n : ℕ) → length (replicate {A = ℕ} n 0) ≡ n
+made n = length-replicate {A = ℕ} n 0
+
 run-first-requires : tie.Need-run-first-requires Inv-loop μ-loop
 run-first-requires c κs =
     let zeros : replicate tableSize 0 ≡ replicate {A = ℕ} tableSize 0 = refl in
-    (zeros, (length-replicate {A = ℕ} 65536 0, length-replicate {A = ℕ} 135252 0))
+    (zeros, (made 65536, made 135252))
 
 loop-holds : tie.Need-loop-holds Inv-loop μ-loop
 loop-holds c =
     let first = c .before .before .before .run-first in
     let kept = first .kept in (
-      (
-        kept .0 ∙ length-replicate {A = ℕ} tableSize 0,
-        kept .1 .1 .0 ∙ length-replicate {A = ℕ} 65536 0,
-        kept .1 .1 .1 .0 ∙ length-replicate {A = ℕ} 135252 0,
-      ),
+      (kept .0 ∙ made tableSize, kept .1 .1 .0 ∙ made 65536, kept .1 .1 .1 .0 ∙ made 135252),
       first .ensures .1,
       handed-first (first .ensures .0),
     )
@@ -63,6 +63,12 @@ pub run-spec : {M : Type 1} → statement M
 run-spec =
     tie.close
     (tie.spec
-    Inv-loop μ-loop (λ c. search needs) (λ c. search needs) (λ c. search needs) run-first-requires loop-holds inside
-    slice-aggregate-write-all (λ c κs. search needs) (λ c. search needs) (λ c. search needs) (λ c. search needs) (λ c. search needs)
-    (λ c κs. search needs) loop-less loop-again)
+    Inv-loop μ-loop
+    -- the lengths of the arrays, as they are made and as they come back
+    (λ c. sym (made tableSize)) (λ c. sym (made 65536)) (λ c. sym (made 135252))
+    run-first-requires loop-holds inside slice-aggregate-write-all (λ c κs. tt) (λ c. tt)
+    (λ c. sym (c .before .before .before .before .loop .inv .0 .0))
+    (λ c. sym (c .before .before .before .before .before .loop .inv .0 .1))
+    (λ c. sym (c .before .before .before .before .before .before .loop .inv .0 .2))
+    (λ c κs. let lengths = c .before .before .before .before .before .before .loop .inv .0 in (lengths .1, lengths .2))
+    loop-less loop-again)
