@@ -29,7 +29,8 @@ returns-2 c =
     let test = some .before .before .before .before in
     let known = test .before .before .before in
     let start = known .before .before in (
-      first-short (start .args .book .now) (bytes known) _ (omega (arith, test .if1 .left)) (start .pre .0) (some .run-some .ensures .0) refl,
+      first-short (start .args .book .now) (bytes known) _ (omega (arith, test .if1 .left)) (start .pre .0)
+          (some .run-some .ensures .0) refl,
       some .run-some .ensures .1 .0,
     )
 
