@@ -1,4 +1,4 @@
--- Field by field. Assumes nothing.
+-- One field. Assumes nothing.
 use mathlib.Core.Path.{sym, _∙_}
 use Rattle.book.specs.Records.{closeAt}
 use borrow.Author.Needs.{needs}
@@ -7,10 +7,7 @@ use Rattle.book.proofs.record.close_fields.Tie as tie
 
 returns : tie.Need-returns
 unfolding closeAt
-returns c =
-    c .ended .ensures ∙
-    sym
-    (c .before .number .ensures .then _)
+returns c = c .ended .ensures ∙ sym (c .before .number .ensures .then _)
 
 pub close-fields-spec : {M : Type 1} → statement M
 close-fields-spec = tie.close (tie.spec (λ c κs. search needs) (λ c κs. search needs) returns)

@@ -1,4 +1,4 @@
--- Field by field. Assumes nothing.
+-- Each field is read where the one before it ended. Assumes nothing.
 use mathlib.Core.Path.{sym, _∙_}
 use Rattle.book.specs.Records.{drawAt}
 use borrow.Author.Needs.{needs}
@@ -8,12 +8,16 @@ use Rattle.book.proofs.record.draw_fields.Tie as tie
 returns : tie.Need-returns
 unfolding drawAt
 returns c =
+    let additional = c .before .before in
+    let request = additional .before in
+    let strength = request .before in
+    let handle = strength .before in
     c .ended .ensures ∙
     sym
-    (c .before .before .before .before .before .number .ensures .then _ ∙
-    c .before .before .before .before .number2 .ensures .then _ ∙
-    c .before .before .before .number-up-to .ensures .then _ ∙
-    c .before .before .string .ensures .then _)
+    (handle .number .ensures .then _ ∙
+    strength .number2 .ensures .then _ ∙
+    request .number-up-to .ensures .then _ ∙
+    additional .string .ensures .then _)
 
 pub draw-fields-spec : {M : Type 1} → statement M
 draw-fields-spec =

@@ -1,4 +1,4 @@
--- Field by field. Assumes nothing.
+-- Each field is read where the one before it ended. Assumes nothing.
 use mathlib.Core.Path.{sym, _∙_}
 use Rattle.book.specs.Records.{freshDrawAt}
 use borrow.Author.Needs.{needs}
@@ -8,13 +8,18 @@ use Rattle.book.proofs.record.fresh_draw_fields.Tie as tie
 returns : tie.Need-returns
 unfolding freshDrawAt
 returns c =
+    let additional = c .before .before .before in
+    let entropy = additional .before in
+    let request = entropy .before in
+    let strength = request .before in
+    let handle = strength .before in
     c .ended .ensures ∙
     sym
-    (c .before .before .before .before .before .before .before .number .ensures .then _ ∙
-    c .before .before .before .before .before .before .number2 .ensures .then _ ∙
-    c .before .before .before .before .before .number-up-to .ensures .then _ ∙
-    c .before .before .before .before .string .ensures .then _ ∙
-    c .before .before .before .string2 .ensures .then _)
+    (handle .number .ensures .then _ ∙
+    strength .number2 .ensures .then _ ∙
+    request .number-up-to .ensures .then _ ∙
+    entropy .string .ensures .then _ ∙
+    additional .string2 .ensures .then _)
 
 pub fresh-draw-fields-spec : {M : Type 1} → statement M
 fresh-draw-fields-spec =

@@ -1,4 +1,4 @@
--- Field by field. Assumes nothing.
+-- Each field is read where the one before it ended. Assumes nothing.
 use mathlib.Core.Path.{sym, _∙_}
 use Rattle.book.specs.Records.{openAt}
 use borrow.Author.Needs.{needs}
@@ -8,15 +8,22 @@ use Rattle.book.proofs.record.open_fields.Tie as tie
 returns : tie.Need-returns
 unfolding openAt
 returns c =
+    let personalization = c .before .before .before .before in
+    let nonce = personalization .before in
+    let entropy = nonce .before in
+    let fresh = entropy .before in
+    let interval = fresh .before in
+    let strength = interval .before in
+    let mechanism = strength .before in
     c .ended .ensures ∙
     sym
-    (c .before .before .before .before .before .before .before .before .before .before .number .ensures .then _ ∙
-    c .before .before .before .before .before .before .before .before .before .number2 .ensures .then _ ∙
-    c .before .before .before .before .before .before .before .before .number3 .ensures .then _ ∙
-    c .before .before .before .before .before .before .before .number-up-to .ensures .then _ ∙
-    c .before .before .before .before .before .before .string .ensures .then _ ∙
-    c .before .before .before .before .before .string2 .ensures .then _ ∙
-    c .before .before .before .before .string3 .ensures .then _)
+    (mechanism .number .ensures .then _ ∙
+    strength .number2 .ensures .then _ ∙
+    interval .number3 .ensures .then _ ∙
+    fresh .number-up-to .ensures .then _ ∙
+    entropy .string .ensures .then _ ∙
+    nonce .string2 .ensures .then _ ∙
+    personalization .string3 .ensures .then _)
 
 pub open-fields-spec : {M : Type 1} → statement M
 open-fields-spec =

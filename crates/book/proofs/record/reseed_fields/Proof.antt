@@ -1,4 +1,4 @@
--- Field by field. Assumes nothing.
+-- Each field is read where the one before it ended. Assumes nothing.
 use mathlib.Core.Path.{sym, _∙_}
 use Rattle.book.specs.Records.{reseedAt}
 use borrow.Author.Needs.{needs}
@@ -8,11 +8,14 @@ use Rattle.book.proofs.record.reseed_fields.Tie as tie
 returns : tie.Need-returns
 unfolding reseedAt
 returns c =
+    let additional = c .before .before .before in
+    let entropy = additional .before in
+    let handle = entropy .before in
     c .ended .ensures ∙
     sym
-    (c .before .before .before .before .before .number .ensures .then _ ∙
-    c .before .before .before .before .string .ensures .then _ ∙
-    c .before .before .before .string2 .ensures .then _)
+    (handle .number .ensures .then _ ∙
+    entropy .string .ensures .then _ ∙
+    additional .string2 .ensures .then _)
 
 pub reseed-fields-spec : {M : Type 1} → statement M
 reseed-fields-spec =
