@@ -15,7 +15,16 @@ ghost use Prim.Native.Nat.{_+_, _≤_, _<_};
 ghost use lib.ListN.{length, take, replicate};
 ghost use Rattle.book.specs.Records.{Fits, PartsIn, meaningOf};
 ghost use Rattle.slots.specs.Sizes.{tableSize};
-ghost use Rattle.runner.specs.Run.{Answers, Ran, left, printedOf};
+ghost use Rattle.runner.specs.Run.{outputSize, lineSize, textSize, Answers, Ran, left, printedOf};
+
+// Room for the longest request, for the longest line, and for the text: a piece ends with the line that passes ENOUGH bytes.
+const OUTPUT: usize = 65536;
+
+const LINE: usize = 84 + 2 * OUTPUT;
+
+const ENOUGH: usize = 4096;
+
+const TEXT: usize = ENOUGH + LINE;
 
 // How a record was answered: its kind, what its call told, and how many bytes it drew to the front of the output.
 pub struct Answered {
@@ -27,7 +36,7 @@ pub struct Answered {
 // The record's call, on the table as the calls before it left it.
 fn answer(table: &mut [u8], book: &[u8], r: Record, out: &mut [u8]) -> Answered
     requires { ⌜ Fits (meaningOf (now book) r) × PartsIn (now book) r ⌝ }
-    requires { ⌜ length (now out) ≡ 65536 ⌝ }
+    requires { ⌜ length (now out) ≡ outputSize ⌝ }
     ensures { λ a. ⌜ Answers (now (table .entry)) (meaningOf (now (book .entry)) r) a (now (out .exit)) (now (table .exit)) ⌝ }
 {
     match r {
@@ -143,7 +152,7 @@ fn run_record(
     at: usize,
 ) -> usize
     requires { ⌜ Fits (meaningOf (now book) r) × PartsIn (now book) r ⌝ }
-    requires { ⌜ (length (now out) ≡ 65536) × (at + 131156 ≤ length (now text)) ⌝ }
+    requires { ⌜ (length (now out) ≡ outputSize) × (at + lineSize ≤ length (now text)) ⌝ }
     ensures { λ end. ⌜ Ran (now (table .entry)) (meaningOf (now (book .entry)) r)
         (now (text .entry)) at end (now (text .exit)) (now (table .exit)) ⌝ }
 {
@@ -167,12 +176,12 @@ pub struct Piece {
     pub next: usize,
 }
 
-// The records from a place on, until the text has 4,096 bytes or more: the room behind them is that of the longest line.
+// The records from a place on, until the text has ENOUGH bytes or more.
 fn run_some(table: &mut [u8], book: &[u8], from: usize, out: &mut [u8], text: &mut [u8]) -> Piece
-    requires { ⌜ (length (now out) ≡ 65536) × (length (now text) ≡ 135252) ⌝ }
+    requires { ⌜ (length (now out) ≡ outputSize) × (length (now text) ≡ textSize) ⌝ }
     ensures prints { λ r. ⌜ left (now (table .entry)) (now (book .entry)) from
         ≡ take (r .end) (now (text .exit)) ++ left (now (table .exit)) (now (book .entry)) (r .next) ⌝ }
-    ensures within { λ r. ⌜ (r .end ≤ 135252) × (from < length (now (book .entry)) → from < r .next) ⌝ }
+    ensures within { λ r. ⌜ (r .end ≤ textSize) × (from < length (now (book .entry)) → from < r .next) ⌝ }
 {
     let mut at = from;
     let mut end = 0;
@@ -186,7 +195,7 @@ fn run_some(table: &mut [u8], book: &[u8], from: usize, out: &mut [u8], text: &m
         };
         end = run_record(table, book, r, out, text, end);
         at = next;
-        if 4096 <= end {
+        if ENOUGH <= end {
             return Piece { end, next: at };
         }
     }
@@ -196,10 +205,10 @@ fn run_some(table: &mut [u8], book: &[u8], from: usize, out: &mut [u8], text: &m
 // The first lines of a book, from a fresh table: those of its first records, or `book 0` where it is above 65,536 bytes.
 fn run_first(table: &mut [u8], book: &[u8], out: &mut [u8], text: &mut [u8]) -> Piece
     requires { ⌜ now table ≡ replicate tableSize 0 ⌝ }
-    requires { ⌜ (length (now out) ≡ 65536) × (length (now text) ≡ 135252) ⌝ }
+    requires { ⌜ (length (now out) ≡ outputSize) × (length (now text) ≡ textSize) ⌝ }
     ensures prints { λ r. ⌜ printedOf (now (book .entry))
         ≡ take (r .end) (now (text .exit)) ++ left (now (table .exit)) (now (book .entry)) (r .next) ⌝ }
-    ensures within { λ r. ⌜ r .end ≤ 135252 ⌝ }
+    ensures within { λ r. ⌜ r .end ≤ textSize ⌝ }
 {
     if 65536 < book.len() {
         let end = line::bad_line(text, 0, 0);
@@ -214,8 +223,8 @@ fn run_first(table: &mut [u8], book: &[u8], out: &mut [u8], text: &mut [u8]) -> 
 // The whole book, of any size. What is written here is promised by run_first and run_some; that it is written no contract can say.
 pub fn run(book: &[u8]) {
     let mut table = [0u8; sizes::TABLE];
-    let mut out = [0u8; 65536];
-    let mut text = [0u8; 135252];
+    let mut out = [0u8; OUTPUT];
+    let mut text = [0u8; TEXT];
     let mut piece = run_first(&mut table, book, &mut out, &mut text);
     loop {
         let end = piece.end;

@@ -10,11 +10,11 @@ fn run_file(i: usize) {
         return;
     }
     let mut book = [0u8; 65537];
-    let length = io::read_full(fd, &mut book);
+    let size = io::read_full(fd, &mut book);
     libc::close(fd);
     io::write_all(STDOUT_FILENO, &name[..n]);
     io::write_all(STDOUT_FILENO, b"\n");
-    runner::run(&book[..length]);
+    runner::run(&book[..size]);
 }
 
 fn main() {

@@ -5,6 +5,7 @@ use mathlib.Core.Path.{_≡_, refl, sym, subst}
 use lib.ListN.{length, take}
 use Rattle.book.specs.Records.{Fits, PartsIn, meaningOf}
 use Rattle.book.specs.declared.record.Record.{Record}
+use Rattle.runner.specs.Run.{outputSize}
 use Rattle.runner.proofs.Records.{lent-inside, lent-length}
 use Rattle.runner.proofs.Records.{answers-as, answers-open, answers-reseed, answers-draw, answers-fresh-draw}
 use Rattle.runner.proofs.Records.{answers-close, answers-inquire}
@@ -25,7 +26,7 @@ module _ (c : tie.After-slice-known2) where
     fits = subst (λ r. Fits (meaningOf (asked .args .book .now) r)) is (asked .pre .0 .0)
 
   -- a request is inside the output
-  module _ {n : ℕ} (few : n ≤ 65536) where
+  module _ {n : ℕ} (few : n ≤ outputSize) where
     inside : n ≤ length (asked .args .out .now)
     inside = lent-inside (asked .args .out .now) n few (asked .pre .1)
 

@@ -5,15 +5,15 @@ use native.Mathlib.Omega.{arith}
 use lib.ListN.{length, replicate, length-replicate}
 use lib.Seq.{length-take-le}
 use Rattle.slots.specs.Sizes.{tableSize}
+use Rattle.runner.specs.Run.{outputSize, textSize}
 use Rattle.runner.proofs.Runs.{HandedOn, handed-first, handed-next}
-use borrow.Author.Needs.{needs}
 use Rattle.runner.proofs.run.Statement.{statement}
 use Rattle.runner.proofs.run.Tie as tie
 
 abbrev Inv-loop : tie.InvT-loop
 Inv-loop book table₀ out₀ text₀ piece₀ table out text piece =
-    ((length table ≡ tableSize) × (length out ≡ 65536) × (length text ≡ 135252)) ×
-    (piece .end ≤ 135252) ×
+    ((length table ≡ tableSize) × (length out ≡ outputSize) × (length text ≡ textSize)) ×
+    (piece .end ≤ textSize) ×
     HandedOn book table text (piece .end) (piece .next)
 
 abbrev μ-loop : tie.MeasureT-loop
@@ -26,13 +26,13 @@ made n = length-replicate {A = ℕ} n 0
 run-first-requires : tie.Need-run-first-requires Inv-loop μ-loop
 run-first-requires c κs =
     let zeros : replicate tableSize 0 ≡ replicate {A = ℕ} tableSize 0 = refl in
-    (zeros, (made 65536, made 135252))
+    (zeros, (made outputSize, made textSize))
 
 loop-holds : tie.Need-loop-holds Inv-loop μ-loop
 loop-holds c =
     let first = c .before .before .before .run-first in
     let kept = first .kept in (
-      (kept .0 ∙ made tableSize, kept .1 .1 .0 ∙ made 65536, kept .1 .1 .1 .0 ∙ made 135252),
+      (kept .0 ∙ made tableSize, kept .1 .1 .0 ∙ made outputSize, kept .1 .1 .1 .0 ∙ made textSize),
       first .ensures .1,
       handed-first (first .ensures .0),
     )
@@ -65,7 +65,7 @@ run-spec =
     (tie.spec
     Inv-loop μ-loop
     -- the lengths of the arrays, as they are made and as they come back
-    (λ c. sym (made tableSize)) (λ c. sym (made 65536)) (λ c. sym (made 135252))
+    (λ c. sym (made tableSize)) (λ c. sym (made outputSize)) (λ c. sym (made textSize))
     run-first-requires loop-holds inside slice-aggregate-write-all (λ c κs. tt) (λ c. tt)
     (λ c. sym (c .before .before .before .before .loop .inv .0 .0))
     (λ c. sym (c .before .before .before .before .before .loop .inv .0 .1))
