@@ -220,18 +220,21 @@ fn run_first(table: &mut [u8], book: &[u8], out: &mut [u8], text: &mut [u8]) -> 
     run_some(table, book, 0, out, text)
 }
 
-// The whole book, of any size. What is written here is promised by run_first and run_some; that it is written no contract can say.
-pub fn run(book: &[u8]) {
+// The whole book, of any size; false where a write failed, and then nothing more is run. What is written here is promised by run_first
+// and run_some; that it is written no contract can say.
+pub fn run(book: &[u8]) -> bool {
     let mut table = [0u8; sizes::TABLE];
     let mut out = [0u8; OUTPUT];
     let mut text = [0u8; TEXT];
     let mut piece = run_first(&mut table, book, &mut out, &mut text);
     loop {
         let end = piece.end;
-        io::write_all(STDOUT_FILENO, &text[..end]);
+        if !io::write_all(STDOUT_FILENO, &text[..end]) {
+            return false;
+        }
         let at = piece.next;
         if book.len() <= at {
-            return;
+            return true;
         }
         piece = run_some(&mut table, book, at, &mut out, &mut text);
     }

@@ -46,13 +46,13 @@ slice-aggregate-write-all c = sym (length-take-le _ _ (inside (c .before)))
 
 loop-less : tie.Need-loop-less Inv-loop μ-loop
 loop-less c =
-    let more = c .before .before .before .before .before .before .before .if1 .left in
+    let more = c .before .before .before .before .before .before .before .if2 .left in
     omega (arith, c .before .before .before .run-some .ensures .1 .1 (omega (arith, more)), more)
 
 loop-again : tie.Need-loop-again Inv-loop μ-loop
 loop-again c =
     let some = c .before .before .before .run-some in
-    let before = c .before .before .before .before .before .before .before .before .before .before .loop .inv in
+    let before = c .before .before .before .before .before .before .before .before .before .before .before .loop .inv in
     let kept = some .kept in (
       (kept .0 ∙ before .0 .0, kept .1 .1 .1 .0 ∙ before .0 .1, kept .1 .1 .1 .1 .0 ∙ before .0 .2),
       some .ensures .1 .0,
@@ -66,9 +66,9 @@ run-spec =
     Inv-loop μ-loop
     -- the lengths of the arrays, as they are made and as they come back
     (λ c. sym (made tableSize)) (λ c. sym (made outputSize)) (λ c. sym (made textSize))
-    run-first-requires loop-holds inside slice-aggregate-write-all (λ c κs. tt) (λ c. tt)
-    (λ c. sym (c .before .before .before .before .loop .inv .0 .0))
-    (λ c. sym (c .before .before .before .before .before .loop .inv .0 .1))
-    (λ c. sym (c .before .before .before .before .before .before .loop .inv .0 .2))
-    (λ c κs. let lengths = c .before .before .before .before .before .before .loop .inv .0 in (lengths .1, lengths .2))
+    run-first-requires loop-holds inside slice-aggregate-write-all (λ c κs. tt) (λ c. tt) (λ c. tt)
+    (λ c. sym (c .before .before .before .before .before .loop .inv .0 .0))
+    (λ c. sym (c .before .before .before .before .before .before .loop .inv .0 .1))
+    (λ c. sym (c .before .before .before .before .before .before .before .loop .inv .0 .2))
+    (λ c κs. let lengths = c .before .before .before .before .before .before .before .loop .inv .0 in (lengths .1, lengths .2))
     loop-less loop-again)
