@@ -2,10 +2,13 @@
 use drbg::generator;
 use drbg_shared::generator::Generator;
 ghost use mathlib.Core.Path.{_≡_};
+ghost use mathlib.Core.List.{[]};
 ghost use lib.ListN.{length};
+ghost use Rattle.bench_draws.specs.Held.{inLimits, openedIn, drawnIn};
 
 fn field_of(s: &[u8]) -> [u8; 55]
     requires { ⌜ length (now s) ≡ 55 ⌝ }
+    ensures { λ r. ⌜ r ≡ now (s .entry) ⌝ }
 {
     let mut f = [0u8; 55];
     copies::copy(&mut f, 0, s);
@@ -14,8 +17,16 @@ fn field_of(s: &[u8]) -> [u8; 55]
 
 fn put(to: &mut [u8], field: [u8; 55])
     requires { ⌜ length (now to) ≡ 55 ⌝ }
+    ensures { λ _. ⌜ now (to .exit) ≡ field ⌝ }
 {
     copies::copy(to, 0, &field);
+}
+
+// Whether two fields are whole, and two numbers are within their limits.
+fn in_limits(first: usize, second: usize, a: usize, most: usize, b: u64, limit: u64) -> bool
+    ensures { λ r. ⌜ r ≡ inLimits first second a most b limit ⌝ }
+{
+    ((first == 55) & (second == 55)) & ((a <= most) & (b <= limit))
 }
 
 // The blocks that were consumed; 0 and nothing done where a length is not one that the bench uses.
@@ -26,17 +37,18 @@ pub extern "C" fn purangsa_bench_open<'a>(
     nonce: &'a [u8],
     first: &mut [u8],
     second: &mut [u8],
-) -> u64 {
-    if first.len() != 55 {
-        return 0;
-    }
-    if second.len() != 55 {
-        return 0;
-    }
-    if 1024 < entropy.len() {
-        return 0;
-    }
-    if 64 < nonce.len() {
+) -> u64
+    ensures { λ r. ⌜ record { first = now (first .exit); second = now (second .exit); blocks = r; output = [] }
+        ≡ openedIn mechanism (now (entropy .entry)) (now (nonce .entry)) (now (first .entry)) (now (second .entry)) ⌝ }
+{
+    if !in_limits(
+        first.len(),
+        second.len(),
+        entropy.len(),
+        1024,
+        nonce.len() as u64,
+        64,
+    ) {
         return 0;
     }
     let none = &entropy[..0];
@@ -56,17 +68,18 @@ pub extern "C" fn purangsa_bench_draw(
     second: &mut [u8],
     counter: u64,
     out: &mut [u8],
-) -> u64 {
-    if first.len() != 55 {
-        return 0;
-    }
-    if second.len() != 55 {
-        return 0;
-    }
-    if 65536 < out.len() {
-        return 0;
-    }
-    if 281474976710656 < counter {
+) -> u64
+    ensures { λ r. ⌜ record { first = now (first .exit); second = now (second .exit); blocks = r; output = now (out .exit) }
+        ≡ drawnIn mechanism (now (first .entry)) (now (second .entry)) counter (now (out .entry)) ⌝ }
+{
+    if !in_limits(
+        first.len(),
+        second.len(),
+        out.len(),
+        65536,
+        counter,
+        281474976710656,
+    ) {
         return 0;
     }
     let g = Generator {
