@@ -7,6 +7,7 @@ use Prim.Native.Nat.{ℕ, _+_, _<_}
 use borrow.Author.Needs.{needs}
 use Rattle.slots.specs.Layout.{withSlot, withLastSerial}
 use Rattle.slots.specs.Bytes.{tableBytes, tableOf}
+use Rattle.slots.specs.Handle.{handleOf}
 use Rattle.reasons.specs.Reasons.{firstOf, NoneHolds}
 use Rattle.reasons.proofs.Allowed.{may-open}
 use Rattle.table.specs.Answers.{newSlot, installed}
@@ -108,8 +109,9 @@ returns-3 c =
     let t = tableOf (bytes (begun at)) in
     let i = lowest at .lowest-free .result in
     let next = serial at .last-serial .result + 1 in
+    let handle : c .before .handle-of .result ≡ handleOf next i = c .before .handle-of .ensures in
     ap₂ (λ r e. record { told = r; table = e; output = [] })
-    (c .accepted .ensures ∙ ap (toldServed (served .opened .result .blocks)) (c .before .handle-of .ensures))
+    (c .accepted .ensures ∙ ap (toldServed (served .opened .result .blocks)) handle)
     (c .before .before .before .before .put-new-slot .ensures ∙
     ap (λ x. tableBytes (withLastSerial (withSlot t i x) next))
     (new .new-slot .ensures ∙
