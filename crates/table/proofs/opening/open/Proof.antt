@@ -109,10 +109,12 @@ returns-3 c =
     let t = tableOf (bytes (begun at)) in
     let i = lowest at .lowest-free .result in
     let next = serial at .last-serial .result + 1 in
+    let put = c .before .before .before .before .put-new-slot in
+    let in-place : put .last .0 ≡ tableBytes (withLastSerial (withSlot t i (new .new-slot .result)) next) = put .ensures in
     let handle : c .before .handle-of .result ≡ handleOf next i = c .before .handle-of .ensures in
     ap₂ (λ r e. record { told = r; table = e; output = [] })
     (c .accepted .ensures ∙ ap (toldServed (served .opened .result .blocks)) handle)
-    (c .before .before .before .before .put-new-slot .ensures ∙
+    (in-place ∙
     ap (λ x. tableBytes (withLastSerial (withSlot t i x) next))
     (new .new-slot .ensures ∙
     ap (λ k. newSlot (a .mechanism) k (a .interval) (a .fresh) next (served .opened .result .generator)) (new .before .rounded .ensures))) ∙
