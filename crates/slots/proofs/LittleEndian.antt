@@ -119,9 +119,10 @@ put-join d e f at m n x room low high =
     (length-littleEndian n _) ∙
     ap (λ u. paste d at u (m + n)) (sym (bytes-join m n x))
 
-pub put-pair : (d : List ℕ) (at x : ℕ) → x < 65536 → at + 2 ≤ length d
-    → set (set d at (x % 256)) (at + 1) (x / 256) ≡ paste d at (littleEndian 2 x) 2
-put-pair d at x fits room =
+pub put-pair : (d : List ℕ) (at x low high : ℕ) → x < 65536 → at + 2 ≤ length d → low ≡ x % 256 → high ≡ x / 256
+    → set (set d at low) (at + 1) high ≡ paste d at (littleEndian 2 x) 2
+put-pair d at x low high fits room is-low is-high =
+    ap₂ (λ a b. set (set d at a) (at + 1) b) is-low is-high ∙
     ap (λ i. set (set d at (x % 256)) i (x / 256)) (add-one at) ∙
     sets-eq (x % 256 ∷ x / 256 ∷ []) d at room ∙
     ap (λ u. take at d ++ take 2 u ++ drop (at + 2) d) (sym (bytes-pair x fits))

@@ -4,7 +4,7 @@ use Rattle.slots.specs.Sizes.{fieldSize}
 use mathlib.Core.Path.{_≡_, refl, sym, ap, ap₂, _∙_}
 use mathlib.Core.Bool.{Bool, true, false, _&&_, _||_}
 use mathlib.Core.List.{List}
-use Prim.Native.Nat.{ℕ, _+_, _%_, _^_, _<_}
+use Prim.Native.Nat.{ℕ, _+_, _≤_, _<_}
 use native.Mathlib.Decide.{decLt}
 use native.Mathlib.Numerals.{add-one}
 use native.Mathlib.Omega.{arith}
@@ -19,13 +19,13 @@ use Rattle.slots.specs.Layout.{Table}
 use Rattle.slots.proofs.Zeros.{all-zero-split}
 
 -- a counter against interval + 1, by its predecessor against the interval
-pub counter-below : (before counter interval : ℕ) → before < 2 ^ 64 → (before + 1) % 2 ^ 64 ≡ counter
+pub counter-below : (before counter interval : ℕ) → (1 ≤ counter → before + 1 ≡ counter)
     → (leb 1 counter && leb before interval) ≡ between 1 counter (interval + 1)
-counter-below before counter interval fits steps = go (decLt 0 counter)
+counter-below before counter interval steps = go (decLt 0 counter)
   where
     go : Dec (0 < counter) → (leb 1 counter && leb before interval) ≡ between 1 counter (interval + 1)
     go (yes some) =
-        let same : counter ≡ before + 1 = omega arith in
+        let same : counter ≡ before + 1 = sym (steps some) in
         ap (λ b. leb 1 counter && b) (sym (leb·suc-suc before interval) ∙ rw (same, add-one, add-one))
     go (no none) =
         let zero : counter < 1 = omega (arith, none) in

@@ -35,11 +35,11 @@ pub fn last_serial(table: &[u8]) -> u32
     numbers::u32_at(table, sizes::LAST)
 }
 
-pub fn put_last_serial(table: &mut [u8], serial: u32)
+pub fn put_last_serial(table: &mut [u8], last: u32)
     requires { ⌜ length (now table) ≡ tableSize ⌝ }
-    ensures { λ _. ⌜ now (table .exit) ≡ tableBytes (withLastSerial (tableOf (now (table .entry))) serial) ⌝ }
+    ensures { λ _. ⌜ now (table .exit) ≡ tableBytes (withLastSerial (tableOf (now (table .entry))) last) ⌝ }
 {
-    numbers::put_u32(table, sizes::LAST, serial);
+    numbers::put_u32(table, sizes::LAST, last);
 }
 
 // A new generator in slot i, with its serial as the last one.

@@ -12,7 +12,7 @@ returns c =
     let a = known .before .args in
     let s = a .table .now in
     let sized = known .before .pre in
-    last-put (tableOf s) (a .serial) (sym (bytes-tableOf s (record { at = λ i. known .slice-known .given i .fits }) sized)) sized
+    last-put (tableOf s) (a .last) (sym (bytes-tableOf s (record { at = λ i. known .slice-known .given i .fits }) sized)) sized
     (c .before .before .put-u32 .ensures)
 
 pub put-last-serial-spec : {M : Type 1} → statement M

@@ -10,7 +10,7 @@ slice-write-s-2 : tie.Need-slice-write-s-2
 slice-write-s-2 c = rw length-set (omega arith)
 
 returns : tie.Need-returns
-returns c = put-pair (c .args .s .now) (c .args .at) (c .args .x) (omega arith) (omega arith)
+returns c = put-pair (c .args .s .now) (c .args .at) (c .args .x) _ _ (omega arith) (omega arith) (omega arith) (omega arith)
 
 pub put-u16-spec : {M : Type 1} → statement M
 put-u16-spec =

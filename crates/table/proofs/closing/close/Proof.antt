@@ -1,7 +1,8 @@
 -- No sound table, no such generator, or served. Each exit cites the law of what it has found. Assumes nothing.
-use mathlib.Core.Path.{refl, sym, ap, ap₂, _∙_}
+use mathlib.Core.Path.{_≡_, refl, sym, ap, ap₂, _∙_}
 use mathlib.Core.List.{List, []}
 use Prim.Native.Nat.{ℕ}
+use native.Mathlib.Omega.{arith}
 use borrow.Author.Needs.{needs}
 use Rattle.slots.specs.Layout.{withSlot}
 use Rattle.slots.specs.Bytes.{tableBytes, tableOf}
@@ -59,16 +60,18 @@ returns-2 c =
     two-some
 
 put-slot-requires : tie.Need-put-slot-requires
-put-slot-requires c κs = let at = c .before .before in (scanned (scan (looked at)) .sized, below (names-it at))
+put-slot-requires c κs = let at = c .before .before in (scanned (scan (looked at)) .sized, omega (arith, below (names-it at)))
 
 returns-3 : tie.Need-returns-3
 returns-3 c =
     let freed = c .before .before .before .before in
     let at = freed .before .before in
     let t = tableOf (bytes (start (looked at))) in
+    let i = at .before .i .given .0 .0 in
+    let put = c .before .before .before .put-slot in
+    let in-place : put .last .0 ≡ tableBytes (withSlot t i (freed .free-slot .result)) = put .ensures in
     ap₂ (λ r e. record { told = r; table = e; output = [] }) (c .accepted .ensures)
-    (c .before .before .before .put-slot .ensures ∙
-    ap (λ x. tableBytes (withSlot t (at .before .i .given .0 .0) x)) (freed .free-slot .ensures)) ∙
+    (in-place ∙ ap (λ x. tableBytes (withSlot t i x)) (freed .free-slot .ensures)) ∙
     served-on _ _ (scanned (scan (looked at)) .sized) (first-close (names-it at)) refl (close-served (names-it at))
 
 pub close-spec : {M : Type 1} → statement M

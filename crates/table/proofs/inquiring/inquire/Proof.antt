@@ -1,13 +1,15 @@
 -- No sound table, no such generator, or served: a sound slot has a small interval, and a counter not past it by more than 1.
 -- Assumes nothing.
-use mathlib.Core.Path.{refl, sym, ap₂, _∙_}
+use mathlib.Core.Path.{_≡_, refl, sym, ap, ap₂, _∙_}
 use mathlib.Core.List.{List, []}
-use Prim.Native.Nat.{ℕ}
+use Prim.Native.Nat.{ℕ, _+_, _-_}
 use native.Mathlib.Omega.{arith}
 use borrow.Author.Needs.{needs}
 use Rattle.slots.specs.Bytes.{tableOf}
 use Rattle.slots.proofs.TableBytes.{bytes-tableOf}
 use Rattle.table.specs.Calls.{Call, inquires, inquire}
+use Rattle.table.specs.OnBytes.{toldServed}
+use Rattle.table.specs.declared.answers.Told.{Told}
 use Rattle.table.proofs.Outcomes.{Named, names-slot, unnamed, below, used-here}
 use Rattle.table.proofs.Exits.{first-unnamed, first-inquire, inquire-served}
 use Rattle.table.proofs.OnBytes.{Whole, whole, bytes-known, served-on, refused-on, unsound-on, two-some}
@@ -78,7 +80,10 @@ returns-3 c =
     let at = c .before .before .before in
     let past = scan (looked (found at)) in
     let w = scanned past in
-    ap₂ (λ r e. record { told = r; table = e; output = [] }) (c .accepted .ensures)
+    let s = at .slot-at .result in
+    let value = ap (λ (r : Told). r .value) (c .accepted .ensures) in
+    let left : c .accepted .result .value ≡ s .interval + 1 - s .counter = omega (arith, value) in
+    ap₂ (λ r e. record { told = r; table = e; output = [] }) (c .accepted .ensures ∙ ap (toldServed 0) (sym value ∙ left))
     (sym (bytes-tableOf (bytes (start (looked (found at)))) (bytes-known (known (past .before) .shared-slice-known .given)) (w .sized))) ∙
     served-on _ _ (w .sized) (first-inquire (names-it (found at))) refl (inquire-served (names-it (found at)) (at .slot-at .ensures))
 

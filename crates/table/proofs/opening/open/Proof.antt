@@ -7,6 +7,7 @@ use Prim.Native.Nat.{ℕ, _+_, _<_}
 use borrow.Author.Needs.{needs}
 use Rattle.slots.specs.Layout.{withSlot, withLastSerial}
 use Rattle.slots.specs.Bytes.{tableBytes, tableOf}
+use Rattle.slots.specs.Handle.{handleOf}
 use Rattle.reasons.specs.Reasons.{firstOf, NoneHolds}
 use Rattle.reasons.proofs.Allowed.{may-open}
 use Rattle.table.specs.Answers.{newSlot, installed}
@@ -108,9 +109,12 @@ returns-3 c =
     let t = tableOf (bytes (begun at)) in
     let i = lowest at .lowest-free .result in
     let next = serial at .last-serial .result + 1 in
+    let put = c .before .before .before .before .put-new-slot in
+    let in-place : put .last .0 ≡ tableBytes (withLastSerial (withSlot t i (new .new-slot .result)) next) = put .ensures in
+    let handle : c .before .handle-of .result ≡ handleOf next i = c .before .handle-of .ensures in
     ap₂ (λ r e. record { told = r; table = e; output = [] })
-    (c .accepted .ensures ∙ ap (toldServed (served .opened .result .blocks)) (c .before .handle-of .ensures))
-    (c .before .before .before .before .put-new-slot .ensures ∙
+    (c .accepted .ensures ∙ ap (toldServed (served .opened .result .blocks)) handle)
+    (in-place ∙
     ap (λ x. tableBytes (withLastSerial (withSlot t i x) next))
     (new .new-slot .ensures ∙
     ap (λ k. newSlot (a .mechanism) k (a .interval) (a .fresh) next (served .opened .result .generator)) (new .before .rounded .ensures))) ∙
