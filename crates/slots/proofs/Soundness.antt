@@ -63,7 +63,8 @@ zero-field field h =
     let parts = both (eqb (length field) fieldSize) (allZero field) h in
     all-zero-is field (parts .1) ∙ ap (λ n. replicate n 0) (eqb-true (length field) fieldSize (parts .0))
 
-slot-is : {m n i c f k : ℕ} {x y : List ℕ} → m ≡ 0 → n ≡ 0 → i ≡ 0 → c ≡ 0 → f ≡ 0 → k ≡ 0 → x ≡ replicate fieldSize 0 → y ≡ replicate fieldSize 0
+slot-is : {m n i c f k : ℕ} {x y : List ℕ} → m ≡ 0 → n ≡ 0 → i ≡ 0 → c ≡ 0 → f ≡ 0 → k ≡ 0 → x ≡ replicate fieldSize 0
+    → y ≡ replicate fieldSize 0
     → record { mechanism = m; strength = n; interval = i; counter = c; fresh = f; serial = k; first = x; second = y } ≡ freeSlot
 slot-is e₁ e₂ e₃ e₄ e₅ e₆ e₇ e₈ = cc
 

@@ -69,7 +69,8 @@ used-standing last s st u sized some most =
 -- the state in a used slot
 sized-state : (m : Mechanism) (g : Generator) → length (g .first) ≡ 55 → length (g .second) ≡ 55 → Sized (stateBytes sha256 m) (stateOf m g)
 unfolding stateOf
-sized-state HMAC-DRBG g a b = record { first = length-take-le 32 (g .first) (omega arith); second = length-take-le 32 (g .second) (omega arith) }
+sized-state HMAC-DRBG g a b =
+    record { first = length-take-le 32 (g .first) (omega arith); second = length-take-le 32 (g .second) (omega arith) }
 sized-state Hash-DRBG g a b = record { first = a; second = b }
 
 pub sized-in : (last : ℕ) (s : Slot) → Used last s → Sized (stateBytes sha256 (mechanismIn s)) (stateIn s)
