@@ -2,7 +2,7 @@
 use Rattle.slots.specs.Sizes.{fieldSize, intervalAt, counterAt, freshAt, serialAt, firstAt, secondAt, slotSize}
 use mathlib.Core.Path.{_≡_, refl, sym, ap, ap₂, _∙_}
 use mathlib.Core.List.{List, [], _∷_, _++_}
-use Prim.Native.Nat.{ℕ, _+_, _^_, _≤_, _<_}
+use Prim.Native.Nat.{ℕ, _+_, _≤_, _<_}
 use native.Mathlib.Nat.{le-of-eq, add-zero}
 use native.Mathlib.Omega.{arith}
 use lib.Dec.{lit≤, lit<}

@@ -5,10 +5,9 @@ use mathlib.Core.List.{List}
 use Rattle.drbg.specs.Generator.{Filled}
 use Rattle.drbg.specs.declared.generator.Generator.{Generator}
 use Rattle.drbg.specs.declared.generator.Served.{Served}
-use Rattle.slots.specs.Layout.{slotAt, withSlot, withLastSerial}
+use Rattle.slots.specs.Layout.{slotAt, withSlot, withLastSerial, Table}
 use Rattle.slots.specs.Handle.{handleOf}
 use Rattle.slots.specs.declared.slot.Slot.{Slot}
-use Rattle.slots.specs.Layout.{Table}
 
 pub record Answer : Type 0 where
   pub number : ℕ
