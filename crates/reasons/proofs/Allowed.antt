@@ -6,8 +6,7 @@ use Prim.Native.Nat.{ℕ, _/_, _^_, _≤_}
 use borrow.Author.Tests.{ltb-false, eqb-true, eqb-false, not-false}
 use lib.Dec.{eqb, ltb}
 use Rattle.reasons.specs.Reasons.{NoneHolds}
-use Rattle.reasons.specs.Checks.{outside, rounded}
-use Rattle.reasons.specs.Checks.{openReasons, reseedReasons, drawReasons, freshDrawReasons, closeReasons, inquireReasons}
+use Rattle.reasons.specs.Checks.{outside, rounded, openReasons, reseedReasons, drawReasons, freshDrawReasons, closeReasons}
 
 one-or-two : (m : ℕ) → (not (eqb m 1) && not (eqb m 2)) ≡ false → (m ≡ 1) ⊎ (m ≡ 2)
 one-or-two m h = go (eqb m 1) (eqb m 2) refl refl h
@@ -132,11 +131,3 @@ pub record MayClose (sound named : Bool) : Type 0 where
 pub may-close : {sound named : Bool} → NoneHolds (closeReasons sound named) → MayClose sound named
 unfolding closeReasons
 may-close h = record { sound-so = not-false _ (h .0); named-so = not-false _ (h .1 .0) }
-
-pub record MayInquire (sound named : Bool) : Type 0 where
-  pub sound-so : sound ≡ true
-  pub named-so : named ≡ true
-
-pub may-inquire : {sound named : Bool} → NoneHolds (inquireReasons sound named) → MayInquire sound named
-unfolding inquireReasons
-may-inquire h = record { sound-so = not-false _ (h .0); named-so = not-false _ (h .1 .0) }

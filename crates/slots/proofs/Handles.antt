@@ -8,12 +8,10 @@ use native.Mathlib.Decide.{decLt}
 use native.Mathlib.Omega.{arith}
 use borrow.Author.Tests.{eqb-true, eq-eqb, ne-eqb}
 use lib.Dec.{eqb}
-use Rattle.slots.specs.Layout.{slotAt, lastSerial, freshTable}
+use Rattle.slots.specs.Layout.{slotAt, lastSerial, freshTable, Table}
 use Rattle.slots.specs.Sound.{sound}
 use Rattle.slots.specs.Handle.{handleOf, inUse, slotOf, names, lookUp, named, lowestFree}
 use Rattle.slots.specs.declared.slot.Slot.{Slot}
-use Rattle.slots.specs.Layout.{Table}
-use Rattle.slots.specs.declared.handle.Found.{Found}
 use Rattle.slots.specs.declared.handle.Found.the-variants.{At, Nothing}
 use Rattle.slots.proofs.Flags.{both, and-both, by-test}
 use Rattle.slots.proofs.Slots.{slotAt-fresh}
@@ -48,14 +46,6 @@ module _ (t : Table) (handle : ℕ) where
       go : (named : Bool) → cond named (At (handle % 16)) Nothing ≡ At i → (i ≡ handle % 16) × (named ≡ true)
       go true e = (cc, refl)
       go false e = let never : _≡_ {A = ℕ} 0 1 = cc in absurd (zero-is-not-one never)
-
-  pub found-nothing : lookUp t handle ≡ Nothing → names t handle ≡ false
-  unfolding lookUp
-  found-nothing = go (names t handle)
-    where
-      go : (named : Bool) → cond named (At (handle % 16)) Nothing ≡ Nothing → named ≡ false
-      go true e = let never : _≡_ {A = ℕ} 0 1 = cc in absurd (zero-is-not-one never)
-      go false e = refl
 
   pub named-is : named (lookUp t handle) ≡ names t handle
   unfolding lookUp

@@ -12,10 +12,9 @@ use borrow.Author.Tests.{lt-leb, ne-eqb}
 use lib.Dec.{eqb, leb, leb·suc-suc}
 use lib.ListN.{length, take, drop, length-drop}
 use lib.Seq.{take-all}
-use Rattle.slots.specs.Layout.{slotAt, lastSerial}
+use Rattle.slots.specs.Layout.{slotAt, lastSerial, Table}
 use Rattle.slots.specs.Sound.{allZero, between, freeNumbers, usedNumbers, freeSound, usedSound, soundSlot, soundSlots}
 use Rattle.slots.specs.declared.slot.Slot.{Slot}
-use Rattle.slots.specs.Layout.{Table}
 use Rattle.slots.proofs.Zeros.{all-zero-split}
 
 -- a counter against interval + 1, by its predecessor against the interval

@@ -2,7 +2,7 @@
 use Rattle.slots.specs.Sizes.{fieldSize, intervalAt, counterAt, freshAt, serialAt, firstAt, secondAt, slotSize}
 use mathlib.Core.Path.{_≡_, refl, sym, ap, ap₂, _∙_}
 use mathlib.Core.List.{List, [], _∷_, _++_}
-use Prim.Native.Nat.{ℕ, _+_, _^_, _≤_, _<_}
+use Prim.Native.Nat.{ℕ, _+_, _≤_, _<_}
 use native.Mathlib.Nat.{le-of-eq, add-zero}
 use native.Mathlib.Omega.{arith}
 use lib.Dec.{lit≤, lit<}
@@ -50,6 +50,9 @@ part-behind p a b at n sized front whole =
     ap (drop at) (sym (take-add at n p ∙ ap (λ u. u ++ part at n p) front) ∙ whole) ∙
     drop-at a b at sized
 
+front-of : (p a b : List ℕ) (at wider : ℕ) → at ≤ wider → take wider p ≡ a ++ b → length a ≡ at → take at p ≡ a
+front-of p a b at wider order front sized = sym (take-take at wider p order) ∙ ap (take at) front ∙ take-at a b at sized
+
 byte-of : (p : List ℕ) (at : ℕ) {b : ℕ} → part at 1 p ≡ b ∷ [] → getD p at 0 ≡ b
 byte-of p at {b} is =
     ap (λ i. getD p i 0) (sym (add-zero at)) ∙ sym (getD-drop at p 0 0) ∙ sym (getD-take 1 (drop at p) 0 0 (lit< tt)) ∙ ap
@@ -87,11 +90,11 @@ module _ (s : Slot) (fits : Fits s) where
       let n8 = length-more a7 (s .second) secondAt fieldSize n7 (fits .second) in
       let t8 : take slotSize p ≡ p = take-all slotSize p (le-of-eq n8) in
       let t7 : take secondAt p ≡ a7 = take-at a7 (s .second) secondAt n7 in
-      let t6 : take firstAt p ≡ a6 = sym (take-take firstAt secondAt p (lit≤ tt)) ∙ ap (take firstAt) t7 ∙ take-at a6 (s .first) firstAt n6 in
-      let t5 : take serialAt p ≡ a5 = sym (take-take serialAt firstAt p (lit≤ tt)) ∙ ap (take serialAt) t6 ∙ take-at a5 (littleEndian 4 (s .serial)) serialAt n5 in
-      let t4 : take freshAt p ≡ a4 = sym (take-take freshAt serialAt p (lit≤ tt)) ∙ ap (take freshAt) t5 ∙ take-at a4 (s .fresh ∷ []) freshAt n4 in
-      let t3 : take counterAt p ≡ a3 = sym (take-take counterAt freshAt p (lit≤ tt)) ∙ ap (take counterAt) t4 ∙ take-at a3 (littleEndian 8 (s .counter)) counterAt n3 in
-      let t2 : take intervalAt p ≡ a2 = sym (take-take intervalAt counterAt p (lit≤ tt)) ∙ ap (take intervalAt) t3 ∙ take-at a2 (littleEndian 8 (s .interval)) intervalAt n2 in
+      let t6 = front-of p a6 (s .first) firstAt secondAt (lit≤ tt) t7 n6 in
+      let t5 = front-of p a5 (littleEndian 4 (s .serial)) serialAt firstAt (lit≤ tt) t6 n5 in
+      let t4 = front-of p a4 (s .fresh ∷ []) freshAt serialAt (lit≤ tt) t5 n4 in
+      let t3 = front-of p a3 (littleEndian 8 (s .counter)) counterAt freshAt (lit≤ tt) t4 n3 in
+      let t2 = front-of p a2 (littleEndian 8 (s .interval)) intervalAt counterAt (lit≤ tt) t3 n2 in
       record {
         strength = part-behind p a1 (littleEndian 2 (s .strength)) 1 2 refl refl t2;
         interval = part-behind p a2 (littleEndian 8 (s .interval)) intervalAt 8 n2 t2 t3;

@@ -3,11 +3,10 @@ use mathlib.Core.Path.{_≡_, refl, ap}
 use mathlib.Core.Logic.{_≢_, _⊎_, inl, inr}
 use mathlib.Core.List.{List, [], _∷_}
 use Prim.Native.Nat.{ℕ, zero, suc, _<_}
-use lib.ListN.{length, getD, replicate, set, getD-replicate}
+use lib.ListN.{length, getD, set, getD-replicate}
 use lib.Seq.{getD-set-same, getD-set-other, set-set, set-getD}
-use Rattle.slots.specs.Layout.{freeSlot, noSlot, slotAt, withSlot, lastSerial, withLastSerial, freshTable}
+use Rattle.slots.specs.Layout.{freeSlot, noSlot, slotAt, withSlot, lastSerial, withLastSerial, freshTable, Table}
 use Rattle.slots.specs.declared.slot.Slot.{Slot}
-use Rattle.slots.specs.Layout.{Table}
 
 -- slot i is there: so for i below 16 in every table that the code holds, and in every sound one
 pub record Has (t : Table) (i : ℕ) : Type 0 where
@@ -58,7 +57,3 @@ module _ (t : Table) (serial : ℕ) where
 pub slotAt-fresh : (i : ℕ) → i < 16 → slotAt freshTable i ≡ freeSlot
 unfolding slotAt freshTable
 slotAt-fresh i h = getD-replicate 16 i freeSlot noSlot h
-
-pub lastSerial-fresh : lastSerial freshTable ≡ 0
-unfolding lastSerial freshTable
-lastSerial-fresh = refl

@@ -1,7 +1,7 @@
 -- What a sound table's slots are, and that one sound slot more keeps a table sound. Assumes nothing.
 use Rattle.slots.specs.Sizes.{fieldSize}
-use mathlib.Core.Path.{_≡_, refl, sym, ap, ap₂, subst, _∙_}
-use mathlib.Core.Bool.{Bool, true, false, false≢true, not, _&&_, _||_}
+use mathlib.Core.Path.{_≡_, refl, sym, ap, subst, _∙_}
+use mathlib.Core.Bool.{true, false, false≢true, not, _||_}
 use mathlib.Core.Logic.{_⊎_, inl, inr, ⊎-elim}
 use mathlib.Core.List.{List}
 use Prim.Native.Nat.{ℕ, zero, suc, _+_, _^_, _≤_, _<_}
@@ -9,15 +9,13 @@ use native.Mathlib.Nat.{le-of-eq}
 use native.Mathlib.Decide.{decLt}
 use native.Mathlib.Omega.{arith}
 use borrow.Author.Tests.{leb-true, eqb-true, le-leb, eq-eqb}
-use lib.Dec.{eqb, leb, eqb·suc-zero}
-use lib.ListN.{length, drop, replicate, List·getD-eq-default}
-use Rattle.slots.specs.Layout.{freeSlot, noSlot, slotAt, withSlot, lastSerial, withLastSerial, freshTable}
-use Rattle.slots.specs.Sound.{allZero, between, freeField, usedField, freeSound, usedSound, soundSlot, soundSlots, sound}
+use lib.Dec.{eqb, leb}
+use lib.ListN.{length, drop, List·getD-eq-default}
+use Rattle.slots.specs.Layout.{freeSlot, noSlot, slotAt, withSlot, lastSerial, withLastSerial, freshTable, Table}
+use Rattle.slots.specs.Sound.{allZero, between, usedField, freeSound, usedSound, soundSlot, soundSlots, sound}
 use Rattle.slots.specs.Handle.{inUse}
 use Rattle.slots.specs.declared.slot.Slot.{Slot}
-use Rattle.slots.specs.Layout.{Table}
 use Rattle.slots.proofs.Flags.{both, and-both, either, or-first, or-second}
-use Rattle.slots.proofs.Zeros.{all-zero-is}
 use Rattle.slots.proofs.Slots.{Has, slotAt-cases, lastSerial-withSlot, slotAt-withLastSerial, lastSerial-withLastSerial}
 
 -- a field of a used slot
@@ -57,15 +55,6 @@ of-between least x most h l = and-both (le-leb least x h) (le-leb x most l)
 of-either : (a b x : ℕ) → (x ≡ a) ⊎ (x ≡ b) → (eqb x a || eqb x b) ≡ true
 of-either a b x (inl e) = or-first (eqb x b) (eq-eqb x a e)
 of-either a b x (inr e) = or-second (eqb x a) (eq-eqb x b e)
-
-zero-field : (field : List ℕ) → freeField field ≡ true → field ≡ replicate fieldSize 0
-zero-field field h =
-    let parts = both (eqb (length field) fieldSize) (allZero field) h in
-    all-zero-is field (parts .1) ∙ ap (λ n. replicate n 0) (eqb-true (length field) fieldSize (parts .0))
-
-slot-is : {m n i c f k : ℕ} {x y : List ℕ} → m ≡ 0 → n ≡ 0 → i ≡ 0 → c ≡ 0 → f ≡ 0 → k ≡ 0 → x ≡ replicate fieldSize 0 → y ≡ replicate fieldSize 0
-    → record { mechanism = m; strength = n; interval = i; counter = c; fresh = f; serial = k; first = x; second = y } ≡ freeSlot
-slot-is e₁ e₂ e₃ e₄ e₅ e₆ e₇ e₈ = cc
 
 module _ (last : ℕ) (s : Slot) where
   pub used-of : usedSound last s ≡ true → Used last s
@@ -116,33 +105,11 @@ module _ (last : ℕ) (s : Slot) where
       let numbers = both _ _ (both _ _ h .0) .0 in
       eqb-true (s .mechanism) 0 (both _ _ (both _ _ (both _ _ (both _ _ (both _ _ numbers .0) .0) .0) .0) .0)
 
-  free-is : freeSound s ≡ true → s ≡ freeSlot
-  unfolding freeSound
-  free-is h =
-      let second = both _ _ h in
-      let first = both _ _ (second .0) in
-      let serial = both _ _ (first .0) in
-      let fresh = both _ _ (serial .0) in
-      let counter = both _ _ (fresh .0) in
-      let interval = both _ _ (counter .0) in
-      let strength = both _ _ (interval .0) in
-      slot-is (eqb-true (s .mechanism) 0 (strength .0)) (eqb-true (s .strength) 0 (strength .1)) (eqb-true (s .interval) 0 (interval .1))
-      (eqb-true (s .counter) 0 (counter .1)) (eqb-true (s .fresh) 0 (fresh .1)) (eqb-true (s .serial) 0 (serial .1))
-      (zero-field (s .first) (first .1)) (zero-field (s .second) (second .1))
-
-  in-use-not : (n : ℕ) → inUse s ≡ false → s .mechanism ≡ suc n → ⊥
-  in-use-not n free e = false≢true (sym free ∙ ap (λ m. not (eqb m 0)) e ∙ ap not (eqb·suc-zero n))
-
   -- a sound slot is free and all zero, or used
   pub sound-used : soundSlot last s ≡ true → inUse s ≡ true → Used last s
   unfolding soundSlot
   sound-used h used =
       ⊎-elim (λ free. absurd (false≢true (ap (λ n. not (eqb n 0)) (sym (free-mechanism free)) ∙ used))) used-of (either _ _ h)
-
-  pub sound-free : soundSlot last s ≡ true → inUse s ≡ false → s ≡ freeSlot
-  unfolding soundSlot
-  sound-free h free = ⊎-elim free-is
-      (λ u. absurd (⊎-elim (in-use-not 0 free) (in-use-not 1 free) (used-of u .mechanism))) (either _ _ h)
 
   pub used-sound : Used last s → soundSlot last s ≡ true
   unfolding soundSlot

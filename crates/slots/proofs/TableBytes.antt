@@ -50,7 +50,8 @@ slots-bytes (suc n) s b room =
 
 -- slot i put in
 pub slots-put : (n i : ℕ) (s : List ℕ) (x : Slot) → i < n → Bytes s → slotSize * n ≤ length s
-    → slotsBytes (set (slotsFrom n s) i x) ++ drop (slotSize * n) s ≡ take (slotSize * i) s ++ (slotBytes x ++ drop (slotSize * i + slotSize) s)
+    → slotsBytes (set (slotsFrom n s) i x) ++ drop (slotSize * n) s
+    ≡ take (slotSize * i) s ++ (slotBytes x ++ drop (slotSize * i + slotSize) s)
 unfolding slotsBytes slotsFrom
 slots-put zero i s x below b room = absurd (not-suc-le-zero below)
 slots-put (suc n) zero s x below b room =
@@ -58,8 +59,9 @@ slots-put (suc n) zero s x below b room =
     ap (λ v. slotBytes x ++ (slotsBytes (slotsFrom n (drop slotSize s)) ++ v)) (sym (drop-next n s)) ∙
     ap (λ u. slotBytes x ++ u) (slots-bytes n (drop slotSize s) (bytes-drop slotSize b) (less n s room))
 slots-put (suc n) (suc i) s x below b room =
-    append-assoc (slotBytes (slotFrom (take slotSize s))) (slotsBytes (set (slotsFrom n (drop slotSize s)) i x)) (drop (slotSize * suc n) s) ∙
-    ap₂ (λ u v. u ++ (slotsBytes (set (slotsFrom n (drop slotSize s)) i x) ++ v)) (first-slot n s b room) (sym (drop-next n s)) ∙
+    let put = slotsBytes (set (slotsFrom n (drop slotSize s)) i x) in
+    append-assoc (slotBytes (slotFrom (take slotSize s))) put (drop (slotSize * suc n) s) ∙
+    ap₂ (λ u v. u ++ (put ++ v)) (first-slot n s b room) (sym (drop-next n s)) ∙
     ap (λ u. take slotSize s ++ u) (slots-put n i (drop slotSize s) x (le-of-suc-le-suc below) (bytes-drop slotSize b) (less n s room)) ∙
     behind i s x
   where
@@ -68,7 +70,8 @@ slots-put (suc n) (suc i) s x below b room =
         ≡ take (slotSize * suc i) s ++ (slotBytes x ++ drop (slotSize * suc i + slotSize) s)
     behind i s x =
         let far : slotSize + (slotSize * i + slotSize) ≡ slotSize * suc i + slotSize = omega arith in
-        sym (append-assoc (take slotSize s) (take (slotSize * i) (drop slotSize s)) (slotBytes x ++ drop (slotSize * i + slotSize) (drop slotSize s))) ∙
+        let rest = drop slotSize s in
+        sym (append-assoc (take slotSize s) (take (slotSize * i) rest) (slotBytes x ++ drop (slotSize * i + slotSize) rest)) ∙
         ap₂ (λ u v. u ++ (slotBytes x ++ v)) (sym (take-add slotSize (slotSize * i) s) ∙ ap (λ k. take k s) (next i))
         (drop-drop (slotSize * i + slotSize) slotSize s ∙ ap (λ k. drop k s) far)
 
@@ -117,15 +120,16 @@ module _ (s : List ℕ) (b : Bytes s) (sized : length s ≡ tableSize) where
         drop-at (slotBytes x) (drop (place + slotSize) s) slotSize (length-slotBytes x fits)
 
 -- a slot read where it stands
-pub slot-read : (s : List ℕ) (i : ℕ) → i < 16 → slotFrom (take (slotSize * i + slotSize - slotSize * i) (drop (slotSize * i) s)) ≡ slotAt (tableOf s) i
+pub slot-read : (s : List ℕ) (i : ℕ) → i < 16
+    → slotFrom (take (slotSize * i + slotSize - slotSize * i) (drop (slotSize * i) s)) ≡ slotAt (tableOf s) i
 unfolding slotAt tableOf
 slot-read s i below =
     let whole : slotSize * i + slotSize - slotSize * i ≡ slotSize = omega arith in
     ap (λ n. slotFrom (take n (drop (slotSize * i) s))) whole ∙ sym (slots-at 16 i s below)
 
 -- the last serial put in
-pub last-put : (u : Table) (serial : ℕ) {e f : List ℕ} → e ≡ tableBytes u → length e ≡ tableSize → f ≡ paste e lastAt (littleEndian 4 serial) 4
-    → f ≡ tableBytes (withLastSerial u serial)
+pub last-put : (u : Table) (serial : ℕ) {e f : List ℕ} → e ≡ tableBytes u → length e ≡ tableSize
+    → f ≡ paste e lastAt (littleEndian 4 serial) 4 → f ≡ tableBytes (withLastSerial u serial)
 unfolding tableBytes withLastSerial
 last-put u serial {e} {f} is sized put =
     let parts : length (slotsBytes (u .slots)) + length (littleEndian 4 (u .last)) ≡ tableSize =

@@ -17,7 +17,7 @@ use Rattle.slots.proofs.Flags.{both}
 use Rattle.slots.proofs.TableBytes.{bytes-tableOf}
 use Rattle.reasons.specs.Reasons.{firstOf}
 use Rattle.table.specs.Answers.{Reply}
-use Rattle.table.specs.Calls.{Call, lent, reasonsOf, refusal, service, reply}
+use Rattle.table.specs.Calls.{Call, lent, reasonsOf, service, reply}
 use Rattle.table.specs.OnBytes.{toldRefused, done, inBytes}
 use Rattle.table.specs.declared.answers.Told.{Told}
 use Rattle.table.proofs.Exits.{refused-call, served-call, first-unsound}

@@ -1,12 +1,12 @@
 -- A state of the right size stands in a slot as document 01 has it, and a used slot holds a state of the right size.
 -- Assumes of a served state that its strings have the mechanism's length (standard, `sized-opening` and its kin), and of its
 -- counter what each law says.
-use mathlib.Core.Path.{_≡_, refl, sym, ap, subst, _∙_}
+use mathlib.Core.Path.{_≡_, refl, ap, _∙_}
 use mathlib.Core.Bool.{Bool, true, false, _||_, cond}
 use mathlib.Core.Logic.{_⊎_, inl, inr}
 use mathlib.Core.List.{List}
-use Prim.Native.Nat.{ℕ, _+_, _-_, _%_, _^_, _≤_}
-use native.Mathlib.Nat.{le-refl, le-add-right}
+use Prim.Native.Nat.{ℕ, _+_, _-_, _^_, _≤_}
+use native.Mathlib.Nat.{le-refl}
 use native.Mathlib.Omega.{arith}
 use lib.Dec.{eqb, leb, lit≤}
 use lib.ListN.{length, drop, replicate, length-append, length-replicate}
@@ -15,17 +15,14 @@ use Rattle.standard.specs.State.{State}
 use Rattle.standard.specs.Sha256.{sha256}
 use Rattle.standard.specs.Functions.{Mechanism, HMAC-DRBG, Hash-DRBG}
 use Rattle.standard.specs.Lengths.{Sized, stateBytes}
-use Rattle.drbg_shared.specs.Generator.{stateOf, field, standing}
 use Rattle.drbg.specs.Mechanism.{mechanismOf}
+use Rattle.drbg_shared.specs.Generator.{stateOf, field, standing}
 use Rattle.drbg_shared.specs.declared.generator.Generator.{Generator}
-use Rattle.slots.specs.Layout.{freeSlot, withSlot, lastSerial, withLastSerial, Table}
-use Rattle.slots.specs.Sound.{allZero, sound}
-use Rattle.slots.specs.Handle.{slotOf, names}
+use Rattle.slots.specs.Sound.{allZero}
 use Rattle.slots.specs.declared.slot.Slot.{Slot}
 use Rattle.slots.proofs.Flags.{or-first, or-second}
 use Rattle.slots.proofs.Zeros.{all-zero-replicate}
-use Rattle.slots.proofs.Soundness.{Field, Used, used-sound, free-sound, sound-withSlot, sound-opened}
-use Rattle.slots.proofs.Handles.{sound-named}
+use Rattle.slots.proofs.Soundness.{Field, Used}
 use Rattle.reasons.specs.Checks.{rounded}
 use Rattle.table.specs.Answers.{generatorOf, withGenerator, newSlot}
 use Rattle.table.specs.Served.{mechanismIn, stateIn}
@@ -70,7 +67,8 @@ used-standing last s st u sized some most =
 -- the state in a used slot
 sized-state : (m : Mechanism) (g : Generator) → length (g .first) ≡ 55 → length (g .second) ≡ 55 → Sized (stateBytes sha256 m) (stateOf m g)
 unfolding stateOf
-sized-state HMAC-DRBG g a b = record { first = length-take-le 32 (g .first) (omega arith); second = length-take-le 32 (g .second) (omega arith) }
+sized-state HMAC-DRBG g a b =
+    record { first = length-take-le 32 (g .first) (omega arith); second = length-take-le 32 (g .second) (omega arith) }
 sized-state Hash-DRBG g a b = record { first = a; second = b }
 
 pub sized-in : (last : ℕ) (s : Slot) → Used last s → Sized (stateBytes sha256 (mechanismIn s)) (stateIn s)
@@ -113,24 +111,3 @@ used-new mechanism strength interval fresh serial st kind some most next sized o
       first = field-standing mechanism (st .first) kind (sized .first);
       second = field-standing mechanism (st .second) kind (sized .second);
     }
-
--- so a served call keeps the table sound
-module _ (t : Table) (whole : sound t ≡ true) where
-  pub sound-stepped : (handle : ℕ) (st : State) → names t handle ≡ true → Sized (stateBytes sha256 (mechanismIn (slotOf t handle))) st
-      → 1 ≤ st .counter → st .counter ≤ slotOf t handle .interval + 1
-      → sound (withSlot t (handle % 16) (withGenerator (slotOf t handle) (standing st))) ≡ true
-  sound-stepped handle st named sized some most =
-      sound-withSlot t (handle % 16) _ whole
-      (used-sound (lastSerial t) _ (used-standing (lastSerial t) (slotOf t handle) st (sound-named t handle whole named) sized some most))
-
-  pub sound-installed : (i mechanism strength interval : ℕ) (fresh : Bool) (st : State) → (mechanism ≡ 1) ⊎ (mechanism ≡ 2)
-      → 1 ≤ interval → interval ≤ 2 ^ 48 → Sized (stateBytes sha256 (mechanismOf mechanism)) st → st .counter ≡ 1 →
-      let serial = lastSerial t + 1 in
-      sound (withLastSerial (withSlot t i (newSlot mechanism (rounded strength) interval fresh serial (standing st))) serial) ≡ true
-  sound-installed i mechanism strength interval fresh st kind some most sized one =
-      sound-opened t i (lastSerial t + 1) _ whole (le-add-right (lastSerial t) 1)
-      (used-sound (lastSerial t + 1) _
-      (used-new mechanism strength interval fresh (lastSerial t + 1) st kind some most (omega arith) sized one))
-
-  pub sound-closed : (i : ℕ) → sound (withSlot t i freeSlot) ≡ true
-  sound-closed i = sound-withSlot t i freeSlot whole (free-sound (lastSerial t))

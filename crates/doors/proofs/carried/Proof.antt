@@ -1,6 +1,5 @@
 -- Field by field. Assumes nothing.
 use mathlib.Core.Path.{refl}
-use borrow.Author.Needs.{needs}
 use Rattle.doors.proofs.carried.Statement.{statement}
 use Rattle.doors.proofs.carried.Tie as tie
 

@@ -1,4 +1,4 @@
--- Assumes nothing.
+-- The last four bytes. Assumes nothing.
 use borrow.Author.Needs.{needs}
 use Rattle.slots.specs.Layout.{lastSerial}
 use Rattle.slots.specs.Bytes.{tableOf}

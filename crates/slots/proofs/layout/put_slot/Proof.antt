@@ -1,4 +1,4 @@
--- Assumes nothing.
+-- The slot's bytes in their place, all others as they were. Assumes nothing.
 use native.Mathlib.Omega.{arith}
 use borrow.Author.Needs.{needs}
 use Rattle.slots.proofs.TableBytes.{table-put}

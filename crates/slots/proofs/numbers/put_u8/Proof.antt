@@ -1,4 +1,4 @@
--- Assumes nothing.
+-- One byte. Assumes nothing.
 use native.Mathlib.Omega.{arith}
 use borrow.Author.Needs.{needs}
 use Rattle.slots.proofs.LittleEndian.{put-one}

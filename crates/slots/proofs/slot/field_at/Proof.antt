@@ -1,4 +1,4 @@
--- Assumes nothing.
+-- A copy over all of the blank field. Assumes nothing.
 use Rattle.slots.specs.Sizes.{fieldSize}
 use mathlib.Core.Path.{refl, _∙_}
 use native.Mathlib.Omega.{arith}

@@ -1,6 +1,5 @@
 -- Field by field. Assumes nothing.
 use mathlib.Core.Path.{refl}
-use borrow.Author.Needs.{needs}
 use Rattle.slots.proofs.slot.free_slot.Statement.{statement}
 use Rattle.slots.proofs.slot.free_slot.Tie as tie
 

@@ -1,4 +1,4 @@
--- Assumes nothing.
+-- Four eights, one behind the other. Assumes nothing.
 use borrow.Author.Needs.{needs}
 use Rattle.slots.proofs.ZeroBytes.{zeros-32}
 use Rattle.slots.proofs.sound.front_is_zero.Statement.{statement}

@@ -1,4 +1,4 @@
--- Assumes nothing.
+-- By the length, then by the scan. Assumes nothing.
 use Rattle.slots.specs.Sizes.{tableSize}
 use mathlib.Core.Path.{sym, ap, _∙_}
 use mathlib.Core.Bool.{_&&_}

@@ -1,4 +1,4 @@
--- Assumes nothing.
+-- Three eights, of which the last two share a byte. Assumes nothing.
 use borrow.Author.Needs.{needs}
 use Rattle.slots.proofs.ZeroBytes.{zeros-23}
 use Rattle.slots.proofs.sound.rest_is_zero.Statement.{statement}

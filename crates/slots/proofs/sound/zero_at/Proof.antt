@@ -1,4 +1,4 @@
--- Assumes nothing.
+-- A number is zero when each of its bytes is. Assumes nothing.
 use mathlib.Core.Path.{ap, _∙_}
 use borrow.Author.Needs.{needs}
 use lib.Dec.{eqb}

@@ -1,6 +1,5 @@
 -- The three numbers as they stand. Assumes nothing.
 use mathlib.Core.Path.{refl}
-use borrow.Author.Needs.{needs}
 use Rattle.table.proofs.answers.refused.Statement.{statement}
 use Rattle.table.proofs.answers.refused.Tie as tie
 

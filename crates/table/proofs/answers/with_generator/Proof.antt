@@ -1,6 +1,5 @@
 -- Field by field. Assumes nothing.
 use mathlib.Core.Path.{refl}
-use borrow.Author.Needs.{needs}
 use Rattle.table.proofs.answers.with_generator.Statement.{statement}
 use Rattle.table.proofs.answers.with_generator.Tie as tie
 

@@ -51,10 +51,13 @@ names-it : (c : tie.After-known-told) → let s = start (looked c) in Named (tab
 names-it c =
     names-slot _ _ _ (scanned (scan (looked c)) .sound) refl (looked c .look-up .ensures) (c .before .i .given .1)
 
-first : (c : tie.After-fresh-draw-reason) → let s = begun c in c .fresh-draw-reason .result ≡ firstOf (reasonsOf (tableOf (bytes s)) (asked s))
+first : (c : tie.After-fresh-draw-reason) →
+    let s = begun c in
+    c .fresh-draw-reason .result ≡ firstOf (reasonsOf (tableOf (bytes s)) (asked s))
 first c =
     let a = begun c .args in
-    first-fresh-draw (names-it (found c)) (slot c .slot-at .ensures) (a .strength) (a .out .now) (a .entropy .now) (a .additional .now) (c .fresh-draw-reason .ensures)
+    first-fresh-draw (names-it (found c)) (slot c .slot-at .ensures) (a .strength) (a .out .now) (a .entropy .now) (a .additional .now)
+    (c .fresh-draw-reason .ensures)
 
 returns : tie.Need-returns
 returns c =
@@ -116,4 +119,5 @@ fresh-draw-spec =
     (tie.spec
     (λ c κs. search needs) (λ c κs. search needs) (λ c. search needs) returns look-up-requires (λ c. search needs) (λ c. search needs)
     (λ c κs. search needs) (λ c. search needs) returns-2 slot-at-requires (λ c κs. search needs) (λ c κs. search needs)
-    (λ c. search needs) returns-3 (λ c κs. search needs) fresh-drawn-requires stepped-requires (λ c. search needs) (λ c. search needs) returns-4)
+    (λ c. search needs) returns-3 (λ c κs. search needs) fresh-drawn-requires stepped-requires (λ c. search needs) (λ c. search needs)
+    returns-4)
