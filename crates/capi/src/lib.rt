@@ -90,7 +90,7 @@ pub extern "C" fn purangsa_draw(
         (now (table .entry)) ⌝ }
 {
     tell(
-        calls::draw(table, handle, strength, output, additional),
+        calls::draw(table, handle, strength, additional, output),
         blocks,
         value,
     )
@@ -112,7 +112,7 @@ pub extern "C" fn purangsa_fresh_draw<'a>(
         (now (table .entry)) ⌝ }
 {
     tell(
-        calls::fresh_draw(table, handle, strength, output, entropy, additional),
+        calls::fresh_draw(table, handle, strength, entropy, additional, output),
         blocks,
         value,
     )

@@ -91,8 +91,8 @@ fn answer(table: &mut [u8], book: &[u8], r: Record, out: &mut [u8]) -> Answered
                 table,
                 handle,
                 strength,
-                &mut out[..n],
                 string::bytes_of(book, additional),
+                &mut out[..n],
             );
             Answered {
                 kind: 3,
@@ -113,9 +113,9 @@ fn answer(table: &mut [u8], book: &[u8], r: Record, out: &mut [u8]) -> Answered
                 table,
                 handle,
                 strength,
-                &mut out[..n],
                 lent,
                 string::bytes_of(book, additional),
+                &mut out[..n],
             );
             Answered {
                 kind: 4,

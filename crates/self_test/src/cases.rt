@@ -42,9 +42,9 @@ pub fn reseeded<'a>(
         personalization,
     );
     calls::reseed(&mut table, 16, entropy2, additional2);
-    calls::draw(&mut table, 16, 256, &mut out, additional3);
+    calls::draw(&mut table, 16, 256, additional3, &mut out);
     let mut last = [0u8; 128];
-    let told = calls::draw(&mut table, 16, 256, &mut last, additional4);
+    let told = calls::draw(&mut table, 16, 256, additional4, &mut last);
     (told.number == 0) & same(&last, returned)
 }
 
@@ -83,9 +83,9 @@ pub fn fresh<'a>(
         nonce,
         personalization,
     );
-    calls::fresh_draw(&mut table, 16, 256, &mut out, entropy2, additional2);
+    calls::fresh_draw(&mut table, 16, 256, entropy2, additional2, &mut out);
     let mut last = [0u8; 128];
-    let told = calls::fresh_draw(&mut table, 16, 256, &mut last, entropy3, additional3);
+    let told = calls::fresh_draw(&mut table, 16, 256, entropy3, additional3, &mut last);
     (told.number == 0) & same(&last, returned)
 }
 
@@ -113,6 +113,6 @@ pub fn refused<'a>(
     );
     let before = table;
     let mut out = [165u8; 128];
-    let told = calls::draw(&mut table, 32, 256, &mut out, additional);
+    let told = calls::draw(&mut table, 32, 256, additional, &mut out);
     (told.number == 2) & same(&table, &before) & same(&out, &[165u8; 128])
 }

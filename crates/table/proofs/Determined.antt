@@ -31,11 +31,11 @@ pub reseed-determined : (κs : _) (a : _) (r q : Told) (s u : _) → reseed.Post
 reseed-determined κs a r q s u h l = same-of (h ∙ sym l)
 
 pub draw-determined : (κs : _) (a : _) (r q : Told) (s u : _) → draw.Post κs a r s → draw.Post κs a q u
-    → Same (leaving r (s .0 .now) (s .1 .1 .1 .0 .now)) (leaving q (u .0 .now) (u .1 .1 .1 .0 .now))
+    → Same (leaving r (s .0 .now) (s .1 .1 .1 .1 .0 .now)) (leaving q (u .0 .now) (u .1 .1 .1 .1 .0 .now))
 draw-determined κs a r q s u h l = same-of (h ∙ sym l)
 
 pub fresh-draw-determined : (κs : _) (a : _) (r q : Told) (s u : _) → fresh-draw.Post κs a r s → fresh-draw.Post κs a q u
-    → Same (leaving r (s .0 .now) (s .1 .1 .1 .0 .now)) (leaving q (u .0 .now) (u .1 .1 .1 .0 .now))
+    → Same (leaving r (s .0 .now) (s .1 .1 .1 .1 .1 .0 .now)) (leaving q (u .0 .now) (u .1 .1 .1 .1 .1 .0 .now))
 fresh-draw-determined κs a r q s u h l = same-of (h ∙ sym l)
 
 pub close-determined : (κs : _) (a : _) (r q : Told) (s u : _) → close.Post κs a r s → close.Post κs a q u

@@ -11,7 +11,7 @@ ghost use mathlib.Core.Path.{_≡_};
 ghost use Rattle.table.specs.Calls.{draws};
 ghost use Rattle.table.specs.OnBytes.{leaving, inBytes};
 
-pub fn draw(table: &mut [u8], handle: u64, strength: u64, out: &mut [u8], additional: &[u8]) -> Told
+pub fn draw(table: &mut [u8], handle: u64, strength: u64, additional: &[u8], out: &mut [u8]) -> Told
     ensures { λ r. ⌜ leaving r (now (table .exit)) (now (out .exit))
         ≡ inBytes (draws handle strength (now (out .entry)) (now (additional .entry))) (now (table .entry)) ⌝ }
 {

@@ -15,9 +15,9 @@ pub fn fresh_draw<'a>(
     table: &mut [u8],
     handle: u64,
     strength: u64,
-    out: &mut [u8],
     entropy: &'a [u8],
     additional: &'a [u8],
+    out: &mut [u8],
 ) -> Told
     ensures { λ r. ⌜ leaving r (now (table .exit)) (now (out .exit))
         ≡ inBytes (freshDraws handle strength (now (out .entry)) (now (entropy .entry)) (now (additional .entry))) (now (table .entry)) ⌝ }

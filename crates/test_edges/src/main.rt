@@ -76,10 +76,10 @@ fn requests(mechanism: u64) {
     let t = open_with(fresh_table(), mechanism, 128, 16).table;
     let mut most = [7u8; 65536];
     let none = [0u8; 1];
-    let a = doors::draw(t, 16, 128, &mut most, &none[..0]);
+    let a = doors::draw(t, 16, 128, &none[..0], &mut most);
     print_draw(b"65536", a, &most);
     let mut more = [7u8; 65537];
-    let b = doors::draw(t, 16, 128, &mut more, &none[..0]);
+    let b = doors::draw(t, 16, 128, &none[..0], &mut more);
     print_draw(b"65537", b, &more);
 }
 
@@ -136,9 +136,9 @@ fn six_calls(t: Held) {
     let mut out = [7u8; 16];
     print_open(b"open", open_with(t, 1, 128, 16));
     print_open(b"reseed", doors::reseed(t, 16, all, none));
-    let a = doors::draw(t, 16, 0, &mut out, none);
+    let a = doors::draw(t, 16, 0, none, &mut out);
     print_draw(b"draw", a, &out);
-    let b = doors::fresh_draw(t, 16, 0, &mut out, all, none);
+    let b = doors::fresh_draw(t, 16, 0, all, none, &mut out);
     print_draw(b"fresh-draw", b, &out);
     print_open(b"close", doors::close(t, 16));
     print_open(b"inquire", doors::inquire(t, 16));

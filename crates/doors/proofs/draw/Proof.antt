@@ -9,7 +9,7 @@ returns : tie.Need-returns
 returns c =
     let called = c .before .before .before .before in
     let held : c .carried .result ≡ carrying (called .draw .result) (called .draw .last .0) = c .carried .ensures in
-    ap (λ a. handsBack a (called .draw .last .1 .1 .1 .0)) held ∙ called .draw .ensures
+    ap (λ a. handsBack a (called .draw .last .1 .1 .1 .1 .0)) held ∙ called .draw .ensures
 
 pub draw-spec : {M : Type 1} → statement M
 draw-spec =

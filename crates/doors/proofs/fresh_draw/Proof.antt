@@ -9,7 +9,7 @@ returns : tie.Need-returns
 returns c =
     let called = c .before .before .before .before in
     let held : c .carried .result ≡ carrying (called .fresh-draw .result) (called .fresh-draw .last .0) = c .carried .ensures in
-    ap (λ a. handsBack a (called .fresh-draw .last .1 .1 .1 .0)) held ∙ called .fresh-draw .ensures
+    ap (λ a. handsBack a (called .fresh-draw .last .1 .1 .1 .1 .1 .0)) held ∙ called .fresh-draw .ensures
 
 pub fresh-draw-spec : {M : Type 1} → statement M
 fresh-draw-spec =

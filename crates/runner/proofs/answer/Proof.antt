@@ -62,8 +62,8 @@ returns-3 c =
     let a = asked at .args in
     let is = found .r3 .given .1 in
     answers-as (a .book .now) is
-    (answers-draw (a .table .now) _ _ _ _ _ _ (a .out .now) _ (fits at is .2) (asked at .pre .1) (called .draw .kept .1 .1 .1 .0)
-    (called .before .bytes-of6 .ensures) (called .draw .ensures) refl)
+    (answers-draw (a .table .now) _ _ _ _ _ _ (a .out .now) _ (fits at is .2) (asked at .pre .1) (called .draw .kept .1 .1 .1 .1 .0)
+    (called .before .before .bytes-of6 .ensures) (called .draw .ensures) refl)
 
 returns-4 : tie.Need-returns-4
 returns-4 c =
@@ -75,7 +75,7 @@ returns-4 c =
     let is = found .r4 .given .1 in
     answers-as (a .book .now) is
     (answers-fresh-draw (a .table .now) _ _ _ _ _ _ (a .out .now) _ (fits at is .2) (asked at .pre .1)
-    (called .fresh-draw .kept .1 .1 .1 .0) (first .bytes-of7 .ensures) (called .before .bytes-of8 .ensures)
+    (called .fresh-draw .kept .1 .1 .1 .1 .1 .0) (first .bytes-of7 .ensures) (called .before .before .bytes-of8 .ensures)
     (called .fresh-draw .ensures) refl)
 
 returns-5 : tie.Need-returns-5
@@ -105,30 +105,30 @@ answer-spec =
     (λ c κs. parts (c .before .before .before) (c .before .r2 .given .1) .0)
     (λ c κs. let found = c .before .before .before in parts (found .before .before) (found .r2 .given .1) .1)
     (λ c κs. search needs)
-    -- draw: the request, additional input
+    -- draw: additional input, the request
     (λ c. search needs)
+    (λ c κs. let found = c .before .before in parts (found .before .before) (found .r3 .given .1))
     (λ c.
-    let found = c .before .before in
+    let found = c .before .before .before in
     let at = found .before .before in
     inside at (fits at (found .r3 .given .1) .2))
     (λ c.
-    let found = c .before .before .before in
+    let found = c .before .before .before .before in
     let at = found .before .before in
     sized at (fits at (found .r3 .given .1) .2))
-    (λ c κs. let found = c .before .before .before in parts (found .before .before) (found .r3 .given .1))
     (λ c κs. search needs)
-    -- fresh draw: entropy, the request, additional input
+    -- fresh draw: entropy, additional input, the request
     (λ c. search needs)
     (λ c κs. parts (c .before .before .before) (c .before .r4 .given .1) .0)
-    (λ c.
-    let found = c .before .before .before in
-    let at = found .before .before in
-    inside at (fits at (found .r4 .given .1) .2))
+    (λ c κs. let found = c .before .before .before in parts (found .before .before) (found .r4 .given .1) .1)
     (λ c.
     let found = c .before .before .before .before in
     let at = found .before .before in
+    inside at (fits at (found .r4 .given .1) .2))
+    (λ c.
+    let found = c .before .before .before .before .before in
+    let at = found .before .before in
     sized at (fits at (found .r4 .given .1) .2))
-    (λ c κs. let found = c .before .before .before .before in parts (found .before .before) (found .r4 .given .1) .1)
     (λ c κs. search needs)
     -- close, inquire
     (λ c. search needs) (λ c κs. search needs) (λ c. search needs) (λ c κs. search needs)
