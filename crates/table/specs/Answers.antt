@@ -1,4 +1,4 @@
--- Answers, and the generator in a slot.
+-- Document 01: an answer carries the number, the table, a block count and a value; and what a served call makes of the table.
 use Prim.Native.Nat.{ℕ}
 use mathlib.Core.Bool.{Bool, cond}
 use mathlib.Core.List.{List}
