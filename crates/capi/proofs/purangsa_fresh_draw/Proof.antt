@@ -7,7 +7,8 @@ use Rattle.capi.proofs.purangsa_fresh_draw.Tie as tie
 returns : tie.Need-returns
 returns c =
     let called = c .before .before .before .before .before .before .before in
-    ap (λ r. record { told = r; table = called .fresh-draw .last .0; output = called .fresh-draw .last .1 .1 .1 .1 .1 .0 }) (c .tell .ensures) ∙
+    ap (λ r. record { told = r; table = called .fresh-draw .last .0; output = called .fresh-draw .last .1 .1 .1 .1 .1 .0 })
+    (c .tell .ensures) ∙
     called .fresh-draw .ensures
 
 pub purangsa-fresh-draw-spec : {M : Type 1} → statement M

@@ -11,4 +11,7 @@ slice-aggregate-some : tie.Need-slice-aggregate-some
 slice-aggregate-some c = sym (length-take-le (c .before .before .args .entropy) (replicate 32 170) (omega arith))
 
 pub open-with-spec : {M : Type 1} → statement M
-open-with-spec = tie.close (tie.spec (λ c. search needs) slice-aggregate-some (λ c. search needs) (λ c. search needs) (λ c κs. search needs) (λ c. search needs))
+open-with-spec =
+    tie.close
+    (tie.spec (λ c. search needs) slice-aggregate-some (λ c. search needs)
+    (λ c. search needs) (λ c κs. search needs) (λ c. search needs))
