@@ -222,6 +222,8 @@ int main(int count, char **words)
         close_as(PURANGSA_TABLE_LENGTH, handles[i], PURANGSA_SERVED);
         draw(PURANGSA_TABLE_LENGTH, handles[i], 0, 16, PURANGSA_NO_SUCH_GENERATOR);
     }
+    if (purangsa_self_test() != 0)
+        fail("the library's test of itself fails");
     printf("%u calls\n", calls);
     return 0;
 }
