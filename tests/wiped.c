@@ -56,6 +56,7 @@ static const struct call calls[] = {
     { "open", OPEN, sizeof entropy, 0, 0 },
     { "open with the least strings", OPEN, 32, 0, 0 },
     { "reseed", RESEED, 32, 0, 0 },
+    { "reseed whose last block has entropy", RESEED, 60, 0, 0 },
     { "reseed with additional input", RESEED, sizeof entropy, sizeof additional, 0 },
     { "draw of 0 bytes", DRAW, 0, 0, 0 },
     { "draw of 16 bytes", DRAW, 0, 0, 16 },
