@@ -4,6 +4,7 @@ FOLDER has the program `secrets`, linked with the archive at fixed addresses, wh
 calls (`calls`), and the stack of each call (`depths`).
 """
 
+import collections
 import pathlib
 import re
 import subprocess
@@ -66,10 +67,11 @@ def main(folder, archive):
     folder = pathlib.Path(folder)
     whole, missed = counts(folder, archive)
     calls = (folder / "calls").read_text().split()[0]
-    where = f": {', '.join(f'`{name}` at {place:#x}' for name, place in missed)}" if 0 < len(missed) <= 4 else ""
+    by_function = collections.Counter(name for name, _ in missed)
+    where = f": {', '.join(f'{count} in `{name}`' for name, count in by_function.most_common())}" if missed else ""
     text = (
         f"{stack_table((folder / 'depths').read_text())}\n"
-        f"The proved part of the archive has {whole:,} instructions; the {calls} calls of `tests/secrets.c` reach all of them"
+        f"The proved part of the archive has {whole:,} instructions; the {calls} calls of `tests/secrets.c`, and its run of the\nlibrary's test of itself, reach all of them"
         f"{f' but {len(missed)}' if missed else ''}{where}.\n")
     print(text, end="")
     page = PAGE.read_text()
