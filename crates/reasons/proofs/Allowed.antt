@@ -32,7 +32,7 @@ pub record MayOpen (sound : Bool) (mechanism strength interval entropy nonce per
   pub personalization-most : personalization ≤ 512
   pub entropy-least : rounded strength / 8 ≤ entropy
   pub entropy-most : entropy ≤ 1024
-  pub nonce-least : 8 ≤ nonce
+  pub nonce-least : rounded strength / 16 ≤ nonce
   pub nonce-most : nonce ≤ 64
   pub slot-free : slot ≡ 16 → ⊥
   pub serials-left : last ≡ 4294967295 → ⊥
@@ -51,8 +51,8 @@ may-open h =
       personalization-most = ltb-false 512 _ (h .1 .1 .1 .1 .0);
       entropy-least = inside _ _ 1024 (h .1 .1 .1 .1 .1 .0) .0;
       entropy-most = inside _ _ 1024 (h .1 .1 .1 .1 .1 .0) .1;
-      nonce-least = inside 8 _ 64 (h .1 .1 .1 .1 .1 .1 .0) .0;
-      nonce-most = inside 8 _ 64 (h .1 .1 .1 .1 .1 .1 .0) .1;
+      nonce-least = inside _ _ 64 (h .1 .1 .1 .1 .1 .1 .0) .0;
+      nonce-most = inside _ _ 64 (h .1 .1 .1 .1 .1 .1 .0) .1;
       slot-free = eqb-false _ 16 (h .1 .1 .1 .1 .1 .1 .1 .0);
       serials-left = eqb-false _ 4294967295 (h .1 .1 .1 .1 .1 .1 .1 .1 .0);
     }

@@ -20,7 +20,7 @@ openReasons sound mechanism strength interval entropy nonce personalization slot
     5 when outside 1 interval (2 ^ 48) else
     6 when ltb 512 personalization else
     8 when outside (rounded strength / 8) entropy 1024 else
-    9 when outside 8 nonce 64 else
+    9 when outside (rounded strength / 16) nonce 64 else
     13 when eqb slot 16 else
     14 when eqb last 4294967295 else
     served

@@ -19,13 +19,15 @@ pub fn open_reason(
 ) -> u64
     ensures { λ r. ⌜ r ≡ firstOf (openReasons true mechanism strength interval entropy nonce personalization slot last) ⌝ }
 {
-    let least = (rounded(strength) / 8) as usize;
+    let own = rounded(strength);
+    let least_entropy = (own / 8) as usize;
+    let least_nonce = (own / 16) as usize;
     let n = or_else(0, (mechanism != 1) & (mechanism != 2), 3);
     let n = or_else(n, 256 < strength, 4);
     let n = or_else(n, (interval < 1) | (281474976710656 < interval), 5);
     let n = or_else(n, 512 < personalization, 6);
-    let n = or_else(n, (entropy < least) | (1024 < entropy), 8);
-    let n = or_else(n, (nonce < 8) | (64 < nonce), 9);
+    let n = or_else(n, (entropy < least_entropy) | (1024 < entropy), 8);
+    let n = or_else(n, (nonce < least_nonce) | (64 < nonce), 9);
     let n = or_else(n, slot == 16, 13);
     or_else(n, last == 4294967295, 14)
 }

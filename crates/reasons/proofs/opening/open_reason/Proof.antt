@@ -1,4 +1,4 @@
--- Each reason in turn, as the definition has them; the least entropy is read off the rounded strength. Assumes nothing.
+-- Each reason in turn, as the definition has them; the least entropy and the least nonce are read off the rounded strength. Assumes nothing.
 use mathlib.Core.Path.{refl, subst}
 use Prim.Native.Nat.{ℕ, _/_}
 use borrow.Author.Needs.{needs}
@@ -23,7 +23,7 @@ returns c =
     let a = at-3 .before .before .args in
     let behind : ℕ → Reasons = λ own.
     8 when outside (own / 8) (a .entropy) 1024 else
-    9 when outside 8 (a .nonce) 64 else
+    9 when outside (own / 16) (a .nonce) 64 else
     13 when eqb (a .slot) 16 else
     14 when eqb (a .last) 4294967295 else
     served in
@@ -43,5 +43,5 @@ returns c =
 pub open-reason-spec : {M : Type 1} → statement M
 open-reason-spec =
     tie.close
-    (tie.spec (λ c κs. search needs) (λ c. search needs) (λ c κs. search needs) (λ c κs. search needs) (λ c κs. search needs)
+    (tie.spec (λ c κs. search needs) (λ c. search needs) (λ c. search needs) (λ c κs. search needs) (λ c κs. search needs) (λ c κs. search needs)
     (λ c κs. search needs) (λ c κs. search needs) (λ c κs. search needs) (λ c κs. search needs) (λ c κs. search needs) returns)
