@@ -11,12 +11,12 @@ use Rattle.slots.specs.Layout.{slotAt, lastSerial, freshTable, Table}
 use Rattle.slots.specs.Handle.{lowestFree}
 use Rattle.slots.proofs.Soundness.{sound-fresh}
 use Rattle.reasons.specs.Reasons.{firstOf, Reasons, _when_else_, NoneHolds, First, this, later}
-use Rattle.reasons.proofs.FirstReason.{none-holds}
+use Rattle.reasons.proofs.FirstReason.{first-of, none-of}
 use Rattle.table.specs.Answers.{Reply, stepped, installed}
 use Rattle.reasons.specs.Checks.{openReasons, reseedReasons, drawReasons, freshDrawReasons, closeReasons, inquireReasons}
 use Rattle.table.specs.Calls.{refusal, service, Call, opens, reseeds, draws, freshDraws, closes, inquires, reply, reasonsOf}
 use Rattle.reasons.proofs.Decisions.{refusing, serving}
-use Rattle.demands.proofs.Outcome.{all-numbered, Outcome, outcome}
+use Rattle.demands.proofs.Outcome.{Outcome, outcome}
 use Rattle.demands.specs.Calls.{number, order}
 use Rattle.demands.specs.Outcomes.{numbersOf, Answered, serves, refuses}
 use Rattle.demands.specs.Handles.{Listed, here, there}
@@ -115,13 +115,21 @@ module _ (t : Table) (c : Call) where
       go (refuses m f is) =
           inr (subst (λ k. Listed k (order c)) (sym (number-first f)) (subst (Listed (suc m)) (in-order t c) (first-listed f)))
 
--- on the fresh table an opening is decided by its settings and lengths: one with 32 bytes of entropy and a nonce of 8
-pub fresh-served : (asked : ℕ) (entropy nonce : List ℕ) → length entropy ≡ 32 → length nonce ≡ 8
-    → firstOf (openReasons true 1 asked 1 32 8 0 0 0) ≡ 0 → number freshTable (opens 1 asked 1 false entropy nonce []) ≡ 0
+  -- both in one equation
+  pub number-is : number t c ≡ firstOf (reasonsOf t c)
+  number-is = go answered
+    where
+      go : Answered t c (reply t c) → number t c ≡ firstOf (reasonsOf t c)
+      go (serves none is) = none-served none ∙ sym (none-of (reasonsOf t c) none)
+      go (refuses m f is) = number-first f ∙ sym (first-of (reasonsOf t c) f)
+
+-- on the fresh table an opening is decided by its settings and lengths
+pub fresh-answered : {least-entropy least-nonce k : ℕ} (mechanism asked : ℕ) (entropy nonce : List ℕ)
+    → length entropy ≡ least-entropy → length nonce ≡ least-nonce
+    → firstOf (openReasons true mechanism asked 1 least-entropy least-nonce 0 0 0) ≡ k
+    → number freshTable (opens mechanism asked 1 false entropy nonce []) ≡ k
 unfolding lowestFree slotAt lastSerial freshTable
-fresh-served asked entropy nonce es ns none =
-    let c = opens 1 asked 1 false entropy nonce [] in
-    let same : reasonsOf freshTable c ≡ openReasons true 1 asked 1 32 8 0 0 0 =
-    ap (λ b. openReasons b 1 asked 1 (length entropy) (length nonce) 0 0 0) sound-fresh
-    ∙ ap₂ (λ e n. openReasons true 1 asked 1 e n 0 0 0) es ns in
-    none-served freshTable c (none-holds (reasonsOf freshTable c) (all-numbered freshTable c) (ap firstOf same ∙ none))
+fresh-answered mechanism asked entropy nonce es ns is =
+    number-is freshTable (opens mechanism asked 1 false entropy nonce [])
+    ∙ ap (λ b. firstOf (openReasons b mechanism asked 1 (length entropy) (length nonce) 0 0 0)) sound-fresh
+    ∙ ap₂ (λ e n. firstOf (openReasons true mechanism asked 1 e n 0 0 0)) es ns ∙ is

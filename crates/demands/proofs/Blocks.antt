@@ -29,7 +29,7 @@ use Rattle.reasons.proofs.Allowed.{may-open, may-reseed, may-draw, may-draw-fre
 use Rattle.demands.specs.Calls.{answer, number, after}
 use Rattle.demands.specs.Blocks.{countOf, firstOpening, longestDraw}
 use Rattle.demands.proofs.Outcome.{Outcome, outcome}
-use Rattle.demands.proofs.Answered.{served-none, none-served, fresh-served}
+use Rattle.demands.proofs.Answered.{served-none, none-served, fresh-answered}
 use Rattle.demands.proofs.Standard.{sized-by, open-standard, reseed-standard, draw-standard, fresh-draw-standard}
 use Rattle.demands.proofs.Moves.{sound-after}
 use Rattle.demands.proofs.Between.{opened-named}
@@ -110,10 +110,10 @@ longest-draw t h strength out additional kind asked extra so =
     blocks-are t (draws h strength out additional) so ∙ longest-count t h strength out additional kind asked extra
 
 -- and there is one
-module _ (entropy nonce : List ℕ) (es : length entropy ≡ 32) (ns : length nonce ≡ 8) where
+module _ (entropy nonce : List ℕ) (es : length entropy ≡ 32) (ns : length nonce ≡ 16) where
   first-served : number freshTable (firstOpening entropy nonce) ≡ 0
   unfolding firstOf openReasons rounded
-  first-served = fresh-served 256 entropy nonce es ns refl
+  first-served = fresh-answered 1 256 entropy nonce es ns refl
 
   first-handle : answer freshTable (firstOpening entropy nonce) .value ≡ 16
   unfolding lowestFree slotAt lastSerial freshTable

@@ -5,10 +5,10 @@ use mathlib.Core.Path.{_≡_, refl, sym, ap, ap₂, _∙_}
 use mathlib.Core.Bool.{Bool, true, false, not, _&&_, cond}
 use mathlib.Core.Logic.{_⊎_, inl, inr}
 use mathlib.Core.List.{List, [], _∷_, map}
-use Prim.Native.Nat.{ℕ, _+_}
+use Prim.Native.Nat.{ℕ, _+_, _-_, _/_}
 use native.Mathlib.Omega.{arith}
 use lib.Dec.{eqb, ltb, lit<}
-use lib.ListN.{getD, drop}
+use lib.ListN.{length, getD, drop}
 use Rattle.standard.specs.Strings.{numberOf, bytesOf, ceiling}
 use Rattle.standard.specs.HashDrbg as HashDrbg
 use Rattle.standard.specs.Sha256.{sha256}
@@ -25,12 +25,16 @@ use Rattle.reasons.specs.Checks.{rounded, openReasons, closeReasons}
 use Rattle.table.specs.Calls.{reply, opens, closes, close}
 use Rattle.reasons.proofs.FirstReason.{first-is}
 use Rattle.demands.specs.Calls.{number}
-use Rattle.demands.proofs.Answered.{number-first, fresh-served}
+use Rattle.demands.proofs.Answered.{number-first, fresh-answered}
 use Rattle.demands.proofs.Handles.{unnamed-2}
 use Rattle.demands.proofs.Standard.{open-standard}
 use Rattle.demands.specs.PLines.{Row, hash-of_takes_, update-with_takes_, _draw-of_takes_, _open-with_takes_, V-of_plus_is_}
 use Rattle.demands.specs.PLines.{strength_gives_, strength_refused, on-a-fresh-table_is-answered_, the-first-handle-is_, Holds, table}
 use Rattle.demands.specs.PLines.{All, none, more}
+
+-- what the reasons say of an opening on the fresh table
+decides : (asked entropy nonce mechanism : ℕ) → ℕ
+decides asked entropy nonce mechanism = firstOf (openReasons true mechanism asked 1 entropy nonce 0 0 0)
 
 -- the two sides of a row
 computed : Row → List ℕ
@@ -39,7 +43,9 @@ computed (update-with n takes k) = updateCount sha256 n ∷ []
 computed (mechanism draw-of n takes k) = drawCount sha256 mechanism n 0 ∷ []
 computed (mechanism open-with n takes k) = openCount sha256 mechanism n ∷ []
 computed (V-of v plus n is sum) = HashDrbg.stepped sha256 v n
-computed (strength asked gives given) = rounded asked ∷ firstOf (openReasons true 1 asked 1 32 8 0 0 0) ∷ []
+computed (strength asked gives given) =
+    rounded asked ∷ decides asked (given / 8) (given / 16) 1 ∷ decides asked (given / 8) (given / 16) 2
+    ∷ decides asked (given / 8) (given / 16 - 1) 1 ∷ decides asked (given / 8) (given / 16 - 1) 2 ∷ []
 computed (strength asked refused) = cond (ltb 256 asked) 4 0 ∷ []
 computed (on-a-fresh-table h is-answered k) = number freshTable (closes h) ∷ []
 computed (the-first-handle-is h) = handleOf (lastSerial freshTable + 1) (lowestFree freshTable 0 16) ∷ []
@@ -50,7 +56,7 @@ stated (update-with n takes k) = k ∷ []
 stated (mechanism draw-of n takes k) = k ∷ []
 stated (mechanism open-with n takes k) = k ∷ []
 stated (V-of v plus n is sum) = sum
-stated (strength asked gives given) = given ∷ 0 ∷ []
+stated (strength asked gives given) = given ∷ 0 ∷ 0 ∷ 9 ∷ 9 ∷ []
 stated (strength asked refused) = 4 ∷ []
 stated (on-a-fresh-table h is-answered k) = k ∷ []
 stated (the-first-handle-is h) = h ∷ []
@@ -77,8 +83,15 @@ is-true : (b : Bool) → _≡_ {A = ℕ} (cond b 4 0) 4 → b ≡ true
 is-true true e = refl
 is-true false e = let never : _≡_ {A = ℕ} 0 4 = e in absurd (omega arith)
 
+either : (f : ℕ → ℕ) {k m : ℕ} → f 1 ≡ k → f 2 ≡ k → (m ≡ 1) ⊎ (m ≡ 2) → f m ≡ k
+either f one two (inl e) = ap f e ∙ one
+either f one two (inr e) = ap f e ∙ two
+
+one-less : (n k : ℕ) → n + 1 ≡ k → n ≡ k - 1
+one-less n k h = omega (arith, h)
+
 holds : (r : Row) → computed r ≡ stated r → Holds r
-unfolding place computed stated openReasons
+unfolding place computed stated decides openReasons
 holds (hash-of n takes k) same = λ m h. hash-blocks sha256 (lit< tt) m ∙ ap (hashCount sha256) h ∙ ap (place 0) same
 holds (update-with n takes k) same = λ d u h ready. update-blocks sha256 (lit< tt) d u ready ∙ ap (updateCount sha256) h ∙ ap (place 0) same
 holds (mechanism draw-of n takes k) same = λ s sized. draw-blocks sha256 (lit< tt) mechanism s n [] sized ∙ ap (place 0) same
@@ -87,7 +100,13 @@ holds (mechanism open-with n takes k) same =
 holds (V-of v plus n is sum) same = same
 holds (strength asked gives given) same = (
   λ t m i f e n p so. ap (λ (s : Slot). s .strength) (open-standard t m asked i f e n p so .slot) ∙ ap (place 0) same,
-  λ e n es ns. fresh-served asked e n es ns (ap (place 1) same),
+  λ m kind e n es.
+      let decided : ℕ → ℕ → ℕ = decides asked (given / 8) in (
+        λ ns. fresh-answered m asked e n es ns (either (decided (given / 16)) (ap (place 1) same) (ap (place 2) same) kind),
+        λ ns.
+            fresh-answered m asked e n es (one-less (length n) (given / 16) ns)
+            (either (decided (given / 16 - 1)) (ap (place 3) same) (ap (place 4) same) kind),
+      ),
 )
 holds (strength asked refused) same =
     λ t m i f e n p whole kind.
@@ -102,7 +121,7 @@ holds (the-first-handle-is h) same =
 
 -- lines 1 to 8 hold
 pub table-holds : All Holds table
-unfolding table computed stated ceiling HashDrbg.stepped numberOf bytesOf rounded firstOf openReasons reply decided closeReasons
+unfolding table computed stated decides ceiling HashDrbg.stepped numberOf bytesOf rounded firstOf openReasons reply decided closeReasons
     lookUp names
     sound soundSlots soundSlot freeSound allZero slotAt lastSerial freshTable lowestFree
 table-holds = all-by computed stated holds table refl

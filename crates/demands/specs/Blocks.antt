@@ -22,7 +22,7 @@ countOf t (freshDraws handle strength out entropy additional) =
 countOf t (closes handle) = 0
 countOf t (inquires handle) = 0
 
--- two calls that reach the bound of 8,288 where entropy has 32 bytes, the nonce 8, the output 65,536 and the additional input 1,024:
+-- two calls that reach the bound of 8,288 where entropy has 32 bytes, the nonce 16, the output 65,536 and the additional input 1,024:
 -- an HMAC_DRBG generator is opened on the fresh table, and the longest draw is made under its handle, 16
 abbrev pub firstOpening : (entropy nonce : List ℕ) → Call
 firstOpening entropy nonce = opens 1 256 1 false entropy nonce []

@@ -5,7 +5,7 @@ use mathlib.Core.Path.{_≡_}
 use mathlib.Core.Bool.{Bool, true, false}
 use mathlib.Core.Logic.{_⊎_}
 use mathlib.Core.List.{List, [], _∷_, _++_}
-use Prim.Native.Nat.{ℕ}
+use Prim.Native.Nat.{ℕ, _+_, _/_}
 use lib.ListN.{length, replicate}
 use Rattle.standard.specs.Hash.{hash}
 use Rattle.standard.specs.Sha256.{sha256}
@@ -38,7 +38,8 @@ pub data Row : Type 0 where
   on-a-fresh-table_is-answered_ : (handle number : ℕ) → Row
   the-first-handle-is_ : (handle : ℕ) → Row
 
--- a draw has no additional input; a strength is given to every served opening, and on the fresh table there is one
+-- a draw has no additional input; a strength is given to every served opening, and on the fresh table the least entropy and the least nonce
+-- of that strength serve, with either mechanism, and a nonce one byte shorter is answered 9 (§1)
 abbrev pub Holds : Row → Type 0
 Holds (hash-of n takes k) = (m : List ℕ) → length m ≡ n → hash sha256 m .blocks ≡ k
 Holds (update-with n takes k) = (d : List ℕ) (u : Keyed) → length d ≡ n → Ready sha256 u → update sha256 d u .blocks ≡ k
@@ -50,7 +51,9 @@ Holds (strength asked gives given) =
     ((t : Table) (m i : ℕ) (f : Bool) (e n p : List ℕ) →
     let c = opens m asked i f e n p in
     number t c ≡ 0 → slotOf (after t c) (answer t c .value) .strength ≡ given)
-    × ((e n : List ℕ) → length e ≡ 32 → length n ≡ 8 → number freshTable (opens 1 asked 1 false e n []) ≡ 0)
+    × ((m : ℕ) → (m ≡ 1) ⊎ (m ≡ 2) → (e n : List ℕ) → length e ≡ given / 8 →
+    let c = opens m asked 1 false e n [] in
+    (length n ≡ given / 16 → number freshTable c ≡ 0) × (length n + 1 ≡ given / 16 → number freshTable c ≡ 9))
 Holds (strength asked refused) =
     (t : Table) (m i : ℕ) (f : Bool) (e n p : List ℕ) → sound t ≡ true → (m ≡ 1) ⊎ (m ≡ 2) → number t (opens m asked i f e n p) ≡ 4
 Holds (on-a-fresh-table h is-answered k) = (c : Call) → Under h c → number freshTable c ≡ k
