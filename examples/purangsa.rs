@@ -70,13 +70,32 @@ pub fn self_test() -> Result<(), u64> {
 pub const MOST_STRENGTH: u64 = 256;
 pub const MOST_INTERVAL: u64 = 1 << 48;
 pub const MOST_ENTROPY: usize = 1024;
-pub const LEAST_NONCE: usize = 8;
 pub const MOST_NONCE: usize = 64;
 pub const MOST_PERSONALIZATION: usize = 512;
 pub const MOST_ADDITIONAL: usize = 1024;
 pub const MOST_REQUEST: usize = 65536;
 pub const MOST_BLOCKS: u64 = 8288;
 pub const TABLE_LENGTH: usize = 2148;
+
+/// The strength of a generator that is opened at this one. Above `MOST_STRENGTH` it is refused.
+pub const fn rounded_strength(strength: u64) -> u64 {
+    match strength {
+        0..=112 => 112,
+        113..=128 => 128,
+        129..=192 => 192,
+        _ => 256,
+    }
+}
+
+/// The least bytes of entropy that serve at this strength.
+pub const fn least_entropy(strength: u64) -> usize {
+    rounded_strength(strength) as usize / 8
+}
+
+/// The least bytes of nonce that serve at this strength.
+pub const fn least_nonce(strength: u64) -> usize {
+    rounded_strength(strength) as usize / 16
+}
 
 #[derive(Clone, Copy, Debug, PartialEq, Eq)]
 pub enum Mechanism {
@@ -122,7 +141,7 @@ impl Refusal {
             Refusal::LONG_PERSONALIZATION => "personalization above 512 bytes",
             Refusal::LONG_ADDITIONAL => "additional input above 1,024 bytes",
             Refusal::BAD_ENTROPY => "entropy below strength/8 bytes or above 1,024",
-            Refusal::BAD_NONCE => "nonce not 8 to 64 bytes",
+            Refusal::BAD_NONCE => "nonce below strength/16 bytes or above 64",
             Refusal::LONG_REQUEST => "request above 65,536 bytes",
             Refusal::NO_FRESH_RIGHT => "fresh draw on a generator opened without that right",
             Refusal::RESEED_DUE => "reseed due",

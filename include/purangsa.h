@@ -55,7 +55,7 @@ enum {
     PURANGSA_LONG_PERSONALIZATION = 6,
     PURANGSA_LONG_ADDITIONAL = 7,
     PURANGSA_BAD_ENTROPY = 8,           /* below strength / 8 bytes, or above PURANGSA_MOST_ENTROPY */
-    PURANGSA_BAD_NONCE = 9,             /* not PURANGSA_LEAST_NONCE to PURANGSA_MOST_NONCE bytes */
+    PURANGSA_BAD_NONCE = 9,             /* below strength / 16 bytes, or above PURANGSA_MOST_NONCE */
     PURANGSA_LONG_REQUEST = 10,
     PURANGSA_NO_FRESH_RIGHT = 11,       /* a fresh draw on a generator that was opened without that right */
     PURANGSA_RESEED_DUE = 12,
@@ -66,11 +66,11 @@ enum {
 /* The mechanisms. */
 enum { PURANGSA_HMAC_DRBG = 1, PURANGSA_HASH_DRBG = 2 };
 
-/* The limits: of strings in bytes, least and most. The least entropy is the strength / 8, after it is rounded up: 14, 16, 24 or 32. */
+/* The limits, of strings in bytes. The least entropy and the least nonce go by the strength: purangsa_least_entropy and
+ * purangsa_least_nonce, below. */
 enum {
     PURANGSA_MOST_STRENGTH = 256,
     PURANGSA_MOST_ENTROPY = 1024,
-    PURANGSA_LEAST_NONCE = 8,
     PURANGSA_MOST_NONCE = 64,
     PURANGSA_MOST_PERSONALIZATION = 512,
     PURANGSA_MOST_ADDITIONAL = 1024,
@@ -162,6 +162,23 @@ uint64_t purangsa_self_test(void);
 enum { PURANGSA_WIPED = 8192 };
 void purangsa_wipe(void);
 
+/* The strength of a generator that is opened at this one, which is rounded up to 112, 128, 192 or 256 (above 256 it is refused). */
+static inline uint64_t purangsa_rounded_strength(uint64_t strength)
+{
+    return strength <= 112 ? 112 : strength <= 128 ? 128 : strength <= 192 ? 192 : 256;
+}
+
+/* The least bytes that serve, of entropy the rounded strength / 8 (14, 16, 24 or 32) and of a nonce half as many (7, 8, 12 or 16). */
+static inline size_t purangsa_least_entropy(uint64_t strength)
+{
+    return (size_t)(purangsa_rounded_strength(strength) / 8);
+}
+
+static inline size_t purangsa_least_nonce(uint64_t strength)
+{
+    return (size_t)(purangsa_rounded_strength(strength) / 16);
+}
+
 /* The words of an answer. */
 static inline const char *purangsa_reason(uint64_t number)
 {
@@ -175,7 +192,7 @@ static inline const char *purangsa_reason(uint64_t number)
     case PURANGSA_LONG_PERSONALIZATION: return "personalization above 512 bytes";
     case PURANGSA_LONG_ADDITIONAL: return "additional input above 1,024 bytes";
     case PURANGSA_BAD_ENTROPY: return "entropy below strength/8 bytes or above 1,024";
-    case PURANGSA_BAD_NONCE: return "nonce not 8 to 64 bytes";
+    case PURANGSA_BAD_NONCE: return "nonce below strength/16 bytes or above 64";
     case PURANGSA_LONG_REQUEST: return "request above 65,536 bytes";
     case PURANGSA_NO_FRESH_RIGHT: return "fresh draw on a generator opened without that right";
     case PURANGSA_RESEED_DUE: return "reseed due";

@@ -26,7 +26,7 @@ WORDS = {
     PERSONALIZATION_TOO_LONG: "personalization above 512 bytes",
     ADDITIONAL_TOO_LONG: "additional input above 1,024 bytes",
     BAD_ENTROPY: "entropy below strength/8 bytes or above 1,024",
-    BAD_NONCE: "nonce not 8 to 64 bytes",
+    BAD_NONCE: "nonce below strength/16 bytes or above 64",
     REQUEST_TOO_LONG: "request above 65,536 bytes",
     NO_FRESH_RIGHT: "fresh draw on a generator opened without that right",
     RESEED_DUE: "reseed due",

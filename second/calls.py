@@ -23,7 +23,6 @@ MOST_STRENGTH = 256
 MOST_PERSONALIZATION = 512
 MOST_ADDITIONAL = 1024
 MOST_ENTROPY = 1024
-LEAST_NONCE = 8
 MOST_NONCE = 64
 MOST_REQUEST = 65536
 
@@ -47,6 +46,11 @@ def entropy_fits(entropy, strength):
     return strength // 8 <= len(entropy) <= MOST_ENTROPY
 
 
+def nonce_fits(nonce, strength):
+    """Reason 9, by the rounded strength: half of it (section 8.6.7)."""
+    return strength // 16 <= len(nonce) <= MOST_NONCE
+
+
 # Open (SP 800-90A section 9.1)
 
 def open_refusal(table, mechanism, strength, interval, entropy, nonce, personalization):
@@ -63,7 +67,7 @@ def open_refusal(table, mechanism, strength, interval, entropy, nonce, personali
         return PERSONALIZATION_TOO_LONG
     if not entropy_fits(entropy, rounded(strength)):
         return BAD_ENTROPY
-    if not LEAST_NONCE <= len(nonce) <= MOST_NONCE:
+    if not nonce_fits(nonce, rounded(strength)):
         return BAD_NONCE
     if lowest_free(table) is None:
         return NO_FREE_SLOT

@@ -12,7 +12,7 @@ import subprocess
 import time
 
 from book import record_bytes
-from calls import LEAST_NONCE, MOST_ADDITIONAL, MOST_ENTROPY, MOST_NONCE, MOST_PERSONALIZATION
+from calls import MOST_ADDITIONAL, MOST_PERSONALIZATION, entropy_fits, nonce_fits
 from check_drbg import CHECKS, DRAWS, opening as opening_strings, steps_of
 from make_books import CRATE, output_of
 from mechanisms import HASH_DRBG, HMAC_DRBG
@@ -66,13 +66,13 @@ def keep(name, book):
 def case_fits(case):
     """Whether all of the case's strings lie within document 01's limits."""
     entropy, nonce, personalization = opening_strings(case)
-    least = int(case.headings["EntropyInputLen"]) // 8
+    strength = int(case.headings["EntropyInputLen"])
     return (
-        LEAST_NONCE <= len(nonce) <= MOST_NONCE
+        nonce_fits(nonce, strength)
         and len(personalization) <= MOST_PERSONALIZATION
-        and least <= len(entropy) <= MOST_ENTROPY
+        and entropy_fits(entropy, strength)
         and all(
-            (kind == DRAW or least <= len(fresh) <= MOST_ENTROPY)
+            (kind == DRAW or entropy_fits(fresh, strength))
             and len(additional) <= MOST_ADDITIONAL
             for kind, fresh, additional in steps_of(case)))
 

@@ -20,6 +20,8 @@ from writer import Writer, close, draw, filler, fresh_draw, inquire, opening, re
 CRATE = pathlib.Path(__file__).resolve().parent.parent / "crates" / "test_books"
 BOTH = (HMAC_DRBG, HASH_DRBG)
 LEAST_ENTROPY = {112: 14, 128: 16, 192: 24, 256: 32}
+LEAST_NONCE = {112: 7, 128: 8, 192: 12, 256: 16}
+ROUNDED_UP = (0, 1, 113, 129, 193)     # to the next strength, whose least strings then decide
 
 
 def example(writer):
@@ -90,9 +92,12 @@ def opening_limits(writer):
             writer.tried(mechanism=mechanism, interval=interval)
         for count in (0, 1, 512, 513):
             writer.tried(mechanism=mechanism, personalization=filler(count))
-        for count in (0, 7, 8, 64, 65):
-            writer.tried(mechanism=mechanism, nonce=filler(count))
     writer.tried(personalization=filler(2048))
+
+
+def least_of(leasts, strength):
+    """The least bytes that serve where this strength is asked."""
+    return min(count for own, count in leasts.items() if own >= strength)
 
 
 def entropy_limits(writer):
@@ -104,10 +109,19 @@ def entropy_limits(writer):
         for count in (least - 1, least, 1024, 1025):
             writer.calls(
                 reseed(handle, filler(count)), fresh_draw(handle, 8, entropy=filler(count)))
-    for strength in (1, 113, 129, 193):     # rounded up, so the next strength's least decides
-        least = min(count for own, count in LEAST_ENTROPY.items() if own >= strength)
+    for strength in ROUNDED_UP:
+        least = least_of(LEAST_ENTROPY, strength)
         for count in (least - 1, least):
             writer.tried(strength=strength, entropy=filler(count))
+
+
+def nonce_limits(writer):
+    """For the strengths as they are, and for those that are rounded up."""
+    for mechanism in BOTH:
+        for strength in (*LEAST_NONCE, *ROUNDED_UP):
+            least = least_of(LEAST_NONCE, strength)
+            for count in (0, least - 1, least, 64, 65):
+                writer.tried(mechanism=mechanism, strength=strength, nonce=filler(count))
 
 
 def draw_limits(writer):
@@ -139,7 +153,7 @@ def lengths(writer):
         for count in (17, 22, 23, 26, 27, 58, 59, 86, 87, 90, 91):
             writer.calls(reseed(handle, filler(count)), fresh_draw(handle, 3, entropy=filler(count)))
         for count in (16, 42, 43, 78, 79, 106, 107):      # with a nonce of 8: 24, 50, 51, ..
-            writer.tried(mechanism=mechanism, entropy=filler(count))
+            writer.tried(mechanism=mechanism, entropy=filler(count), nonce=filler(8))
 
 
 def intervals(writer):
@@ -215,8 +229,8 @@ def empty(writer):
 
 WRITERS = {
     "example": example, "answers": answers, "order": order, "opening-limits": opening_limits,
-    "entropy-limits": entropy_limits, "draw-limits": draw_limits, "lengths": lengths,
-    "intervals": intervals, "handles": handles, "interleaved": interleaved,
+    "entropy-limits": entropy_limits, "nonce-limits": nonce_limits, "draw-limits": draw_limits,
+    "lengths": lengths, "intervals": intervals, "handles": handles, "interleaved": interleaved,
     "longest-draw": longest_draw, "longest-book": longest_book, "too-long": too_long,
     "empty": empty,
 }

@@ -23,7 +23,7 @@ def drawn(name, a):
 
 
 def open_with(table, mechanism, strength, entropy):
-    return open_call(table, mechanism, strength, 2, 1, b"\xaa" * entropy, b"\x55" * 8, b"")
+    return open_call(table, mechanism, strength, 2, 1, b"\xaa" * entropy, b"\x55" * 16, b"")
 
 
 def requests(mechanism):

@@ -10,7 +10,7 @@ STRENGTHS = (0, 1, 112, 113, 128, 129, 192, 193, 256, 256, 257, 2**64 - 1)
 ASKED = (0, 0, 0, 0, 0, 0, 0, 0, 112, 113, 128, 129, 192, 193, 256, 257)
 INTERVALS = (1, 1, 2, 2, 3, 5, 2**48 - 1, 2**48, 0, 2**48 + 1)
 ENTROPY = (13, 14, 15, 16, 23, 24, 31, 32, 32, 32, 33, 48, 64, 100, 1024, 1025)
-NONCE = (7, 8, 8, 8, 9, 16, 32, 63, 64, 65)
+NONCE = (6, 7, 8, 9, 11, 12, 13, 15, 16, 16, 17, 32, 63, 64, 65)
 PERSONALIZATION = (0, 0, 0, 1, 23, 64, 511, 512, 513)
 ADDITIONAL = (0, 0, 0, 1, 22, 23, 63, 64, 87, 1023, 1024, 1025)
 LENGTHS = (0, 1, 16, 31, 32, 33, 64, 65, 100, 256, 257)
@@ -54,7 +54,7 @@ class Lot:
         if self.source.random() < 0.5:
             return opening(
                 choice((1, 2)), choice(ASKED[:-1]), choice((1, 2, 3, 9)), choice((0, 1, 1)),
-                self.source.randbytes(32), self.source.randbytes(8))
+                self.source.randbytes(32), self.source.randbytes(16))
         return opening(
             choice(MECHANISMS), choice(STRENGTHS), choice(INTERVALS), choice((0, 1)),
             self.string(ENTROPY), self.string(NONCE), self.string(PERSONALIZATION))

@@ -20,7 +20,7 @@ FREE = 12
 LENGTHS = (0, 1, 16, 31, 32, 33, 55, 56, 63, 64, 65, 1023, 1024, 1025)
 LONG = (65535, 65536, 65537)
 ENTROPY = (0, 13, 14, 15, 16, 23, 24, 31, 32, 33, 55, 56, 64, 1023, 1024, 1025, 65536, 65537)
-NONCE = (0, 7, 8, 9, 16, 55, 56, 63, 64, 65, 1024)
+NONCE = (0, 6, 7, 8, 9, 11, 12, 13, 15, 16, 17, 55, 56, 63, 64, 65, 1024)
 PERSONALIZATION = (0, 1, 23, 55, 56, 64, 511, 512, 513, 1025, 65537)
 ADDITIONAL = (0, 1, 22, 23, 55, 56, 63, 64, 1023, 1024, 1025, 65537)
 
@@ -60,7 +60,7 @@ def openings():
         yield from (opening(mechanism, interval=number) for number in INTERVALS)
         yield from (opening(mechanism, fresh=number) for number in FRESH)
         yield from (opening(mechanism, strength, entropy=filler(count)) for strength in (0, 128, 192, 256) for count in ENTROPY)
-        yield from (opening(mechanism, nonce=filler(count)) for count in NONCE)
+        yield from (opening(mechanism, strength, nonce=filler(count)) for strength in STRENGTHS for count in NONCE)
         yield from (opening(mechanism, personalization=filler(count)) for count in PERSONALIZATION)
 
 
@@ -231,7 +231,7 @@ class Lot:
         if self.source.random() < 0.7:
             return opening(
                 choice(BOTH), choice((0, 112, 128, 192, 256)), choice((1, 2, 3, 2**48)), choice(FRESH),
-                self.source.randbytes(choice((32, 33, 64, 1024))), self.source.randbytes(choice((8, 16, 64))),
+                self.source.randbytes(choice((32, 33, 64, 1024))), self.source.randbytes(choice((16, 17, 64))),
                 self.source.randbytes(choice((0, 1, 512))))
         return opening(
             choice(MECHANISMS), choice(STRENGTHS), choice(INTERVALS), choice(FRESH), self.string(ENTROPY),

@@ -13,7 +13,7 @@ def filler(length, salt=0):
 
 
 ENTROPY = filler(32, 3)
-NONCE = filler(8, 5)
+NONCE = filler(16, 5)     # serves at every strength
 
 
 def opening(mechanism=HMAC_DRBG, strength=128, interval=LONGEST_INTERVAL, fresh=1,

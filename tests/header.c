@@ -22,7 +22,6 @@ int main(void)
     SHOW(MOST_STRENGTH);
     SHOW(MOST_INTERVAL);
     SHOW(MOST_ENTROPY);
-    SHOW(LEAST_NONCE);
     SHOW(MOST_NONCE);
     SHOW(MOST_PERSONALIZATION);
     SHOW(MOST_ADDITIONAL);
@@ -31,5 +30,9 @@ int main(void)
     SHOW(FIELD_LENGTH);
     SHOW(SLOT_LENGTH);
     SHOW(TABLE_LENGTH);
+    static const uint64_t strengths[] = { 0, 1, 112, 113, 128, 129, 192, 193, 256 };
+    for (size_t i = 0; i < sizeof strengths / sizeof strengths[0]; i++)
+        printf("%" PRIu64 " %" PRIu64 " %zu %zu\n", strengths[i], purangsa_rounded_strength(strengths[i]),
+               purangsa_least_entropy(strengths[i]), purangsa_least_nonce(strengths[i]));
     return 0;
 }

@@ -161,11 +161,11 @@ enum { REQUESTS = sizeof requests / sizeof requests[0] };
 
 static uint64_t opened(size_t i)
 {
-    static const size_t nonces[] = { PURANGSA_LEAST_NONCE, 16, PURANGSA_MOST_NONCE };
     static const size_t personalizations[] = { 0, 1, 55, PURANGSA_MOST_PERSONALIZATION };
     static const uint64_t strengths[] = { 0, 128, 192, PURANGSA_MOST_STRENGTH };
     size_t e = lengths[i / 2 % LENGTHS];
     uint64_t mechanism = i % 2 == 0 ? PURANGSA_HMAC_DRBG : PURANGSA_HASH_DRBG, strength = e < 32 ? 0 : strengths[i / 2 % 4];
+    size_t nonces[] = { purangsa_least_nonce(strength), 16, PURANGSA_MOST_NONCE };
     return open_as(PURANGSA_TABLE_LENGTH, mechanism, strength, e, nonces[i % 3], personalizations[i / 2 % 4], PURANGSA_SERVED);
 }
 
@@ -188,7 +188,8 @@ static void refused(uint64_t handle)
 {
     open_as(PURANGSA_TABLE_LENGTH - 1, PURANGSA_HMAC_DRBG, 0, 32, 8, 0, PURANGSA_TABLE_UNSOUND);
     open_as(PURANGSA_TABLE_LENGTH, PURANGSA_HASH_DRBG + 1, 0, 32, 8, 0, PURANGSA_BAD_MECHANISM);
-    open_as(PURANGSA_TABLE_LENGTH, PURANGSA_HMAC_DRBG, PURANGSA_MOST_STRENGTH, 32, 8, 0, PURANGSA_NO_FREE_SLOT);
+    open_as(PURANGSA_TABLE_LENGTH, PURANGSA_HMAC_DRBG, PURANGSA_MOST_STRENGTH, 32, 15, 0, PURANGSA_BAD_NONCE);
+    open_as(PURANGSA_TABLE_LENGTH, PURANGSA_HMAC_DRBG, PURANGSA_MOST_STRENGTH, 32, 16, 0, PURANGSA_NO_FREE_SLOT);
     reseed(PURANGSA_TABLE_LENGTH - 1, handle, 32, 0, PURANGSA_TABLE_UNSOUND);
     reseed(PURANGSA_TABLE_LENGTH, 0, 32, 0, PURANGSA_NO_SUCH_GENERATOR);
     reseed(PURANGSA_TABLE_LENGTH, handle, 32, PURANGSA_MOST_ADDITIONAL + 1, PURANGSA_LONG_ADDITIONAL);

@@ -83,7 +83,7 @@ static void run(void)
     switch (now->kind) {
     case OPEN:
         answer = purangsa_open(table, sizeof table, mechanism, 256, 1000, 1, entropy, now->entropy, nonce,
-                               now->entropy == 32 ? PURANGSA_LEAST_NONCE : sizeof nonce, personalization,
+                               now->entropy == 32 ? purangsa_least_nonce(256) : sizeof nonce, personalization,
                                now->entropy == 32 ? 0 : sizeof personalization, &blocks, &value);
         break;
     case RESEED:
@@ -194,7 +194,7 @@ static struct found look_for(enum secret s)
     case STATE_BEFORE: return look_for_state(before);
     case STATE_AFTER: return look_for_state(table);
     case ENTROPY: return look(entropy, now->entropy);
-    case NONCE: return look(nonce, now->kind != OPEN ? 0 : least ? PURANGSA_LEAST_NONCE : sizeof nonce);
+    case NONCE: return look(nonce, now->kind != OPEN ? 0 : least ? purangsa_least_nonce(256) : sizeof nonce);
     case PERSONALIZATION: return look(personalization, now->kind != OPEN || least ? 0 : sizeof personalization);
     case ADDITIONAL: return look(additional, now->additional);
     default: return look(output, now->output);

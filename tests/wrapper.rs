@@ -120,7 +120,14 @@ fn calls(tally: &mut Tally, mechanism: Mechanism) -> Result<(), Refusal> {
     );
     tally.refused(table.open(&opening(mechanism, &entropy[..15], &nonce)), Refusal::BAD_ENTROPY);
     tally.refused(table.open(&opening(mechanism, &long[..MOST_ENTROPY + 1], &nonce)), Refusal::BAD_ENTROPY);
-    tally.refused(table.open(&opening(mechanism, &entropy, &nonce[..LEAST_NONCE - 1])), Refusal::BAD_NONCE);
+    for strength in [0, 112, 113, 128, 129, 192, 193, MOST_STRENGTH] {
+        let least = least_nonce(strength);
+        tally.note(least_entropy(strength) == 2 * least, "the least nonce is half the least entropy");
+        let short = Opening { strength, ..opening(mechanism, &long[..2 * least], &long[..least - 1]) };
+        tally.refused(table.open(&short), Refusal::BAD_NONCE);
+        let opened = table.open(&Opening { nonce: &long[..least], ..short })?;
+        table.close(opened.value)?;
+    }
     tally.refused(table.open(&opening(mechanism, &entropy, &long[..MOST_NONCE + 1])), Refusal::BAD_NONCE);
     tally.refused(table.reseed(handle, &entropy, &long), Refusal::LONG_ADDITIONAL);
     tally.refused(table.draw(handle, 129, b"", &mut output), Refusal::BAD_STRENGTH);

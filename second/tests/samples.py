@@ -9,7 +9,7 @@ from table import FRESH_TABLE
 
 BOTH = (HMAC_DRBG, HASH_DRBG)
 ENTROPY = bytes(range(32))
-NONCE = bytes(range(100, 108))
+NONCE = bytes(range(100, 116))
 
 # The example of document 01, and its output, whole.
 EXAMPLE_BOOK = bytes.fromhex(

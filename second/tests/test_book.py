@@ -18,8 +18,8 @@ SAMPLES = {
     OPEN: (
         Record(OPEN, {
             "mechanism": 2, "strength": 256, "interval": 300, "fresh": 1,
-            "entropy": b"E" * 32, "nonce": b"N" * 8, "personalization": b"PP"}),
-        "01 02 8002 AC02 01 20" + "45" * 32 + "08" + "4E" * 8 + "02 5050"),
+            "entropy": b"E" * 32, "nonce": b"N" * 16, "personalization": b"PP"}),
+        "01 02 8002 AC02 01 20" + "45" * 32 + "10" + "4E" * 16 + "02 5050"),
     RESEED: (
         Record(RESEED, {"handle": 16, "entropy": b"E" * 3, "additional": b"A"}),
         "02 10 03 454545 01 41"),

@@ -55,7 +55,7 @@ class Edges(unittest.TestCase):
 
     def test_5_hash_open(self):
         for extra, blocks in ((50, 6), (51, 8)):
-            answer = opened(mechanism=HASH_DRBG, personalization=bytes(extra - 40))
+            answer = opened(mechanism=HASH_DRBG, personalization=bytes(extra - len(ENTROPY + NONCE)))
             self.assertEqual((answer.number, answer.blocks), (0, blocks))
 
     # Edge 6 is in test_mechanisms.py, edges 7 and 8 are in test_table.py.
@@ -170,7 +170,7 @@ class OrderOfChecks(unittest.TestCase):
             5: self.given("interval", 0, 2**48 + 1, 2**64 - 1),
             6: self.given("personalization", bytes(513), bytes(2048)),
             8: self.given("entropy", bytes(31), b"", bytes(1025)),
-            9: self.given("nonce", bytes(7), b"", bytes(65)),
+            9: self.given("nonce", bytes(15), b"", bytes(65)),
             13: [full],
             14: [last_serial],
         }
@@ -240,9 +240,17 @@ class Served(unittest.TestCase):
     def test_limits_themselves_are_served(self):
         for changes in (
                 {"mechanism": 1}, {"mechanism": 2}, {"strength": 0}, {"interval": 1},
-                {"interval": 2**48}, {"entropy": bytes(1024)}, {"nonce": bytes(8)},
+                {"interval": 2**48}, {"entropy": bytes(1024)}, {"nonce": bytes(16)},
                 {"nonce": bytes(64)}, {"personalization": bytes(512)}):
             self.assertEqual(opened(**changes).number, 0, changes)
+
+    def test_least_nonce_goes_by_the_rounded_strength(self):
+        for asked, least in (
+                (0, 7), (1, 7), (112, 7), (113, 8), (128, 8), (129, 12), (192, 12), (193, 16), (256, 16)):
+            for mechanism in BOTH:
+                for count, number in ((0, 9), (least - 1, 9), (least, 0), (64, 0), (65, 9)):
+                    answer = opened(mechanism=mechanism, strength=asked, nonce=bytes(count))
+                    self.assertEqual(answer.number, number, (asked, count))
 
     def test_open(self):
         for mechanism in BOTH:

@@ -113,8 +113,8 @@ class Calls(unittest.TestCase):
     def test_open(self):
         for mechanism in BOTH:
             for entropy, nonce, personalization in (
-                    (32, 8, 0), (33, 9, 1), (1024, 64, 512), (64, 64, 64), (32, 10, 8),
-                    (32, 10, 9)):
+                    (32, 16, 0), (33, 17, 1), (1024, 64, 512), (64, 64, 64), (32, 16, 2),
+                    (32, 16, 3)):
                 answer = open_call(
                     FRESH_TABLE, mechanism, 256, 1, False,
                     bytes(entropy), bytes(nonce), bytes(personalization))

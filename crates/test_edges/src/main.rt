@@ -64,7 +64,7 @@ fn open_with(t: Held, mechanism: u64, strength: u64, entropy: usize) -> Answer
     requires { ⌜ entropy ≤ 32 ⌝ }
 {
     let lent = [170u8; 32];
-    let nonce = [85u8; 8];
+    let nonce = [85u8; 16];
     let all = &lent[..];
     let some = &all[..entropy];
     let none = &all[..0];
