@@ -1,9 +1,9 @@
 -- Demand 2, the standard: what a served opening, reseed, draw and fresh draw leave, give out and count is SP 800-90A's function at the
 -- state that stands under the handle: services are defined by it, and a state is read back from its slot as it was put in. Assumes nothing.
-use mathlib.Core.Path.{_≡_, refl, sym, ap, _∙_}
+use mathlib.Core.Path.{_≡_, refl, sym, ap, subst, _∙_}
 use mathlib.Core.Bool.{Bool, true}
 use mathlib.Core.List.{List}
-use Prim.Native.Nat.{ℕ, _+_, _-_, _%_}
+use Prim.Native.Nat.{ℕ, _+_, _-_, _*_, _%_, _≤_}
 use native.Mathlib.Omega.{arith}
 use lib.Dec.{lit<}
 use lib.ListN.{length}
@@ -28,7 +28,7 @@ use Rattle.table.specs.Answers.{Reply, stepped, installed, withGenerator, newSl
 use Rattle.table.specs.Served.{mechanismIn, stateIn}
 use Rattle.reasons.proofs.Decisions.{refusing, serving}
 use Rattle.table.proofs.Standing.{sized-in}
-use Rattle.reasons.proofs.Allowed.{may-open, may-reseed, may-draw, may-draw-fresh}
+use Rattle.reasons.proofs.Allowed.{may-open, entropy-bits, nonce-bits, may-reseed, may-draw, may-draw-fresh}
 use Rattle.table.specs.Calls.{Call, opens, reseeds, draws, freshDraws, reply}
 use Rattle.demands.specs.Calls.{answer, number, after}
 use Rattle.demands.specs.Calls as Calls
@@ -156,6 +156,18 @@ module _ (t : Table) (mechanism strength interval : ℕ) (fresh : Bool) (entropy
             ap (λ (s : Slot). s .interval + 1 - s .counter) slot-is
             ∙ left-new interval (mechanismOf mechanism) entropy nonce personalization;
       }
+
+  -- SP 800-90A §8.6.3, §8.6.7: a served opening brings entropy of the generator's strength in bits, and a nonce of half as many
+  pub open-strings :
+      let c = opens mechanism strength interval fresh entropy nonce personalization in
+      let s = slotOf (after t c) (answer t c .value) in
+      number t c ≡ 0 → (s .strength ≤ 8 * length entropy) × (s .strength ≤ 2 * (8 * length nonce))
+  open-strings so =
+      let may = may-open (served-none t (opens mechanism strength interval fresh entropy nonce personalization) so) in
+      let own = ap (λ (s : Slot). s .strength) (open-standard so .slot) in (
+        subst (λ k. k ≤ 8 * length entropy) (sym own) (entropy-bits strength (length entropy) (may .entropy-least)),
+        subst (λ k. k ≤ 2 * (8 * length nonce)) (sym own) (nonce-bits strength (length nonce) (may .nonce-least)),
+      )
 
 -- open's value is the handle and inquire's the draws left; any other call's is 0
 pub no-value : (t : Table) (c : Call) → Calls.NoValue c → answer t c .value ≡ 0
