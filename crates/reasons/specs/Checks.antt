@@ -11,7 +11,8 @@ outside least x most = ltb x least || ltb most x
 unfoldable pub rounded : (strength : ℕ) → ℕ
 rounded strength = cond (leb strength 112) 112 (cond (leb strength 128) 128 (cond (leb strength 192) 192 256))
 
--- slot is the lowest free one, 16 where there is none, and last the last serial
+-- slot is the lowest free one, 16 where there is none, and last the last serial. The least entropy has the strength in bits, and the least
+-- nonce half as many (SP 800-90A §8.6.3, §8.6.7)
 unfoldable pub openReasons : (sound : Bool) (mechanism strength interval entropy nonce personalization slot last : ℕ) → Reasons
 openReasons sound mechanism strength interval entropy nonce personalization slot last =
     1 when not sound else
