@@ -3,7 +3,7 @@
 Runs the program on NIST's DRBG cases as books, on random books, on a stored book that comes
 in small pieces, and on a small stack. It must print what NIST published and what the second
 program prints, byte for byte. SEED repeats the random books of an earlier run. A book that
-fails is kept in target/failed/. (On the stored books the program `test_books` runs the same code.)
+fails is kept in target/failed/. (On the stored books the program `test_files` runs the same code.)
 """
 
 import random
@@ -14,7 +14,8 @@ import time
 from book import record_bytes
 from calls import MOST_ADDITIONAL, MOST_PERSONALIZATION, entropy_fits, nonce_fits
 from check_drbg import CHECKS, DRAWS, opening as opening_strings, steps_of
-from make_books import CRATE, output_of
+from file_runs import CRATE
+from make_books import output_of
 from mechanisms import HASH_DRBG, HMAC_DRBG
 from random_books import random_book
 from records import DRAW, MOST_BOOK, RESEED
@@ -165,7 +166,7 @@ def in_pieces(path, book, size):
 
 def compare_pieces(program):
     for name, size in (("example", 1), ("interleaved", 7), ("longest-book", 1000), ("too-long", 1000)):
-        book = (CRATE / "data" / f"{name}.book").read_bytes()
+        book = (CRATE / "data" / "books" / f"{name}.book").read_bytes()
         output = in_pieces(program.path, book, size)
         program.note(output == output_of(book), f"stored book {name} in pieces of {size}", book)
 

@@ -1,15 +1,13 @@
-"""python3 second/make_books.py [--check]: what the program `test_books` is run on.
+"""python3 second/make_books.py [--check]: the stored books, which the program `test_files` is run on.
 
-Writes crates/test_books/data/, the stored books, the spoiled ones (spoiled.py) in a folder of
-their own; args, their names; and stdout, what the program must print: each book's name and
-its lines, which are the second program's. --check writes nothing and compares all of it
-with what stands there.
+Writes crates/test_files/data/books/, the spoiled ones (spoiled.py) in a folder of their own,
+with args and stdout (file_runs.py): for each book the program must print its name and its
+lines, which are the second program's. --check writes nothing and compares all of it with
+what stands there.
 """
 
-import pathlib
 import re
 
-from made_files import command
 from mechanisms import HASH_DRBG, HMAC_DRBG
 from records import MOST_BOOK
 from run import lines_of
@@ -17,7 +15,6 @@ from spoiled import spoiled_books
 from table import LONGEST_INTERVAL
 from writer import Writer, close, draw, filler, fresh_draw, inquire, opening, reseed
 
-CRATE = pathlib.Path(__file__).resolve().parent.parent / "crates" / "test_books"
 BOTH = (HMAC_DRBG, HASH_DRBG)
 LEAST_ENTROPY = {112: 14, 128: 16, 192: 24, 256: 32}
 LEAST_NONCE = {112: 7, 128: 8, 192: 12, 256: 16}
@@ -242,7 +239,7 @@ def output_of(book):
 
 def file_of(name):
     """A file for a spoiled book: its name's letters and digits."""
-    return f"spoiled/{'-'.join(re.findall('[A-Za-z0-9]+', name))}.book"
+    return f"books/spoiled/{'-'.join(re.findall('[A-Za-z0-9]+', name))}.book"
 
 
 def books():
@@ -251,22 +248,18 @@ def books():
     for name, write_calls in WRITERS.items():
         writer = Writer()
         write_calls(writer)
-        found[f"{name}.book"] = writer.book
+        found[f"books/{name}.book"] = writer.book
     for name, book in spoiled_books():
         assert file_of(name) not in found
         found[file_of(name)] = book
     return found
 
 
-def made():
-    """The crate's files for its run, by their names."""
-    found = books()
-    return {
-        **{f"data/{name}": book for name, book in found.items()},
-        "args": "".join(f"{name}\n" for name in found).encode(),
-        "stdout": b"".join(f"{name}\n".encode() + output_of(book) for name, book in found.items()),
-    }
+def runs():
+    """By the files' names: a book, and what must be printed for it."""
+    return {name: (book, f"{name}\n".encode() + output_of(book)) for name, book in books().items()}
 
 
 if __name__ == "__main__":
-    command(CRATE, ["data", "args", "stdout"], made)
+    from file_runs import command
+    command("books")

@@ -8,8 +8,8 @@ use Rattle.sha256.specs.Fed.{HasRead}
 use Rattle.sha256.proofs.Feeding.{read-padded}
 use Rattle.compression.proofs.Stores.{length-part}
 use borrow.Author.Needs.{needs}
-use Rattle.test_hashes.proofs.in_pieces.Statement.{statement}
-use Rattle.test_hashes.proofs.in_pieces.Tie as tie
+use Rattle.test_files.proofs.hashes.in_pieces.Statement.{statement}
+use Rattle.test_files.proofs.hashes.in_pieces.Tie as tie
 
 abbrev Inv-loop : tie.InvT-loop
 Inv-loop s size h₀ at₀ h at = (at ≤ length s) × HasRead (take at s) h

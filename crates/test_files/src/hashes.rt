@@ -1,5 +1,5 @@
-// Hashes the files that its arguments name. A line holds the name, the size of the pieces in which the bytes were fed
-// (0: as one string), the blocks and the digest. The pieces end inside the blocks, on their ends and across them.
+// Hashes a message. A line holds its name, the size of the pieces in which its bytes were fed (0: as one string), the blocks and
+// the digest. The pieces end inside the blocks, on their ends and across them.
 use sha256::running;
 use sha256::running::Digest;
 use sha256::running::Running;
@@ -44,31 +44,11 @@ fn print_pieces(name: &[u8], message: &[u8], size: usize)
     print_line(name, size, in_pieces(message, size));
 }
 
-fn print_all(name: &[u8], message: &[u8]) {
+pub fn print_all(name: &[u8], message: &[u8]) {
     print_line(name, 0, running::hash_of(message));
     print_pieces(name, message, 1);
     print_pieces(name, message, 63);
     print_pieces(name, message, 64);
     print_pieces(name, message, 65);
     print_pieces(name, message, 200);
-}
-
-fn hash_file(i: usize) {
-    let mut name = io::buffer();
-    let n = os::arg(i, &mut name);
-    let fd = os::open_read(&name[..n]);
-    if fd < 0 {
-        os::fail(&name[..n]);
-        return;
-    }
-    let mut message = [0u8; 8192];
-    let length = io::read_full(fd, &mut message);
-    libc::close(fd);
-    print_all(&name[..n], &message[..length]);
-}
-
-fn main() {
-    for i in 1..os::arg_count() {
-        hash_file(i);
-    }
 }

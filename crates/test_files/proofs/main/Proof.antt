@@ -1,8 +1,8 @@
 -- The loop counts the arguments up. Assumes nothing.
 use Prim.Native.Nat.{_-_}
 use borrow.Author.Needs.{needs}
-use Rattle.test_hashes.proofs.main.Statement.{statement}
-use Rattle.test_hashes.proofs.main.Tie as tie
+use Rattle.test_files.proofs.main.Statement.{statement}
+use Rattle.test_files.proofs.main.Tie as tie
 
 abbrev Inv-loop : tie.InvT-loop
 Inv-loop i₀ i-end i = Unit
