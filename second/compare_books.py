@@ -1,9 +1,9 @@
 """python3 second/compare_books.py PROGRAM [SEED]: the program beside the second program.
 
-Runs the program on NIST's DRBG cases as books, on random books, on a stored book that comes
-in small pieces, and on a small stack. It must print what NIST published and what the second
-program prints, byte for byte. SEED repeats the random books of an earlier run. A book that
-fails is kept in target/failed/. (On the stored books the program `test_files` runs the same code.)
+Runs the program on NIST's DRBG cases as books, on the stored books, on random books, on books
+that come in small pieces, and on a small stack. It must print what NIST published and what the
+second program prints, byte for byte. SEED repeats the random books of an earlier run. A book
+that fails is kept in target/failed/.
 """
 
 import random
@@ -138,6 +138,15 @@ def compare_nist(program):
         compare_file(program, path)
 
 
+# The stored books
+
+def compare_stored(program):
+    """`test_files` runs them by the same code; here the program itself reads them."""
+    for path in sorted((CRATE / "data" / "books").rglob("*.book")):
+        book = path.read_bytes()
+        program.prints(f"stored book {path.stem}", book, output_of(book))
+
+
 # Random books
 
 def compare_random(program, seed):
@@ -204,6 +213,7 @@ def counted(program, name, compare):
 def main(path, seed):
     program = Program(path)
     counted(program, "NIST's cases as books", lambda: compare_nist(program))
+    counted(program, "stored books", lambda: compare_stored(program))
     counted(program, "random books", lambda: compare_random(program, seed))
     counted(program, "books in pieces", lambda: compare_pieces(program))
     counted(program, "a book far too long", lambda: compare_far_too_long(program))
