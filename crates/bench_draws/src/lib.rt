@@ -89,7 +89,7 @@ pub extern "C" fn purangsa_bench_draw(
     };
     let one = [0u8; 1];
     let none = &one[..0];
-    let served = generator::drawn(mechanism, g, out, none);
+    let served = generator::drawn(mechanism, g, none, out);
     let next = served.generator;
     let a = next.first;
     let b = next.second;

@@ -7,7 +7,7 @@ use mathlib.Core.List.{List, _∷_, _++_}
 use Prim.Native.Nat.{ℕ, zero, suc, _+_, _-_, _/_, _%_, _<_}
 use native.Mathlib.Decide.{ℕ-discrete}
 use native.Mathlib.Omega.{arith}
-use lib.Dec.{eqb, lit<, eqb·suc-zero}
+use lib.Dec.{eqb, lit<}
 use lib.ListN.{length, length-append}
 use Rattle.standard.specs.State.{State}
 use Rattle.standard.specs.Sha256.{sha256}
@@ -23,35 +23,21 @@ use Rattle.slots.specs.declared.slot.Slot.{Slot}
 use Rattle.slots.proofs.Slots.{slotAt-same, slotAt-other, lastSerial-withSlot}
 use Rattle.slots.proofs.Soundness.{sound-fresh, sound-has}
 use Rattle.slots.proofs.Handles.{named-is, slot-below, lowest-most}
-use Rattle.reasons.specs.Reasons.{Reasons, firstOf, NoneHolds, decided}
+use Rattle.reasons.specs.Reasons.{NoneHolds, First}
 use Rattle.reasons.specs.Checks.{rounded}
 use Rattle.table.specs.Answers.{Reply, stepped, installed, withGenerator, newSlot, generatorOf}
 use Rattle.table.specs.Served.{mechanismIn, stateIn}
-use Rattle.reasons.proofs.FirstReason.{numbered, none-holds}
+use Rattle.reasons.proofs.Decisions.{refusing, serving}
 use Rattle.reasons.proofs.Allowed.{may-open, may-reseed, may-draw, may-draw-fresh}
-use Rattle.table.specs.Calls.{Call, reply, reasonsOf, refusal, service}
+use Rattle.table.specs.Calls.{Call, reasonsOf, refusal, service}
 use Rattle.table.specs.declared.answers.Told.{Told}
+use Rattle.table.proofs.Exits.{first-refuses, none-refuses}
 use Rattle.demands.specs.Calls.{answer}
 use Rattle.demands.specs.Alike.{Alike, openings, reseedings, drawings, fresh-drawings, closings, inquiries, AllAlike, none, more}
 use Rattle.demands.specs.Alike.{SameNumbers, AlikeTables, SameOutcome, told}
-use Rattle.demands.proofs.Outcome.{reply-decided, all-numbered}
+use Rattle.demands.proofs.Outcome.{Outcome, outcome}
 use Rattle.demands.proofs.Moves.{sound-after, counter-held, below-16}
 use Rattle.demands.proofs.Standard.{sized-by}
-
--- two calls with the same reasons come out in the same way
-data Pair {A : Type 0} (reasons : Reasons) (f g : ℕ → A) (a b : A) : A → A → Type 0 where
-  refusing-both : (n : ℕ) → Pair reasons f g a b (f (suc n)) (g (suc n))
-  serving-both : NoneHolds reasons → Pair reasons f g a b a b
-
-pair : {A : Type 0} (reasons : Reasons) (f g : ℕ → A) (a b : A) → numbered reasons ≡ true
-    → Pair reasons f g a b (decided reasons f a) (decided reasons g b)
-unfolding decided
-pair reasons f g a b ok = go (firstOf reasons) refl
-  where
-    go : (n : ℕ) → firstOf reasons ≡ n → Pair reasons f g a b (cond (eqb n 0) a (f n)) (cond (eqb n 0) b (g n))
-    go zero e = serving-both (none-holds reasons ok e)
-    go (suc n) e =
-        subst (λ z. Pair reasons f g a b (cond z a (f (suc n))) (cond z b (g (suc n)))) (sym (eqb·suc-zero n)) (refusing-both n)
 
 lengths : (a b c d : List ℕ) → length a ≡ length c → length b ≡ length d → length (a ++ b) ≡ length (c ++ d)
 lengths a b c d h l = length-append a b ∙ ap₂ _+_ h l ∙ sym (length-append c d)
@@ -221,18 +207,16 @@ module _ {t u : Table} (tables : AlikeTables t u) (t-sound : sound t ≡ true) (
 
   -- two calls alike
   pub call-alike : {c d : Call} → Alike c d → SameOutcome (answer t c) (answer u d)
-  call-alike {c} {d} alike =
-      let same = reasons-alike tables t-sound u-sound alike in
-      let other : reply u d ≡ decided (reasonsOf t c) (refusal u d) (service u d) =
-      reply-decided u d ∙ ap (λ x. decided x (refusal u d) (service u d)) (sym same) in
-      subst (λ (r : Reply). SameOutcome (r .answer) (answer u d)) (sym (reply-decided t c))
-      (subst (λ (r : Reply). SameOutcome (decided (reasonsOf t c) (refusal t c) (service t c) .answer) (r .answer)) (sym other)
-      (go same (pair (reasonsOf t c) (refusal t c) (refusal u d) (service t c) (service u d) (all-numbered t c))))
+  call-alike {c} {d} alike = go (reasons-alike tables t-sound u-sound alike) (outcome t c)
     where
-      go : {r q : Reply} → reasonsOf t c ≡ reasonsOf u d → Pair (reasonsOf t c) (refusal t c) (refusal u d) (service t c) (service u d) r q
-          → SameOutcome (r .answer) (q .answer)
-      go same (refusing-both n) = record { number = refl; blocks = refl; value = refl; tables = tables }
-      go same (serving-both ok) = served-alike alike ok (subst NoneHolds same ok)
+      go : {r : Reply} → reasonsOf t c ≡ reasonsOf u d → Outcome t c r → SameOutcome (r .answer) (answer u d)
+      go same (refusing n first) =
+          subst (λ (q : Reply). SameOutcome (refusal t c (suc n) .answer) (q .answer))
+          (sym (first-refuses u d (subst (First (suc n)) same first)))
+          (record { number = refl; blocks = refl; value = refl; tables = tables })
+      go same (serving ok) =
+          let ok′ = subst NoneHolds same ok in
+          subst (λ (q : Reply). SameOutcome (service t c .answer) (q .answer)) (sym (none-refuses u d ok′)) (served-alike alike ok ok′)
 
 -- the lists of numbers, values and counts of two sequences alike are equal
 pub runs-alike : {t u : Table} {cs ds : List Call} → AlikeTables t u → sound t ≡ true → sound u ≡ true → AllAlike cs ds

@@ -1,7 +1,7 @@
 -- Demand 1: a call is refused by the first of its reasons that holds, and then changes nothing; where none holds it is served. What a
 -- refusal keeps is said by the reason, so that a call which is served in part may give a number too. Assumes nothing.
 use mathlib.Core.Path.{ap₂, _≡_, refl, sym, ap, subst, _∙_}
-use mathlib.Core.Bool.{true, false, false≢true}
+use mathlib.Core.Bool.{true, false}
 use mathlib.Core.Logic.{_⊎_, inl, inr}
 use mathlib.Core.List.{List, []}
 use Prim.Native.Nat.{ℕ, suc}
@@ -10,12 +10,13 @@ use lib.ListN.{length}
 use Rattle.slots.specs.Layout.{slotAt, lastSerial, freshTable, Table}
 use Rattle.slots.specs.Handle.{lowestFree}
 use Rattle.slots.proofs.Soundness.{sound-fresh}
-use Rattle.reasons.specs.Reasons.{firstOf, Reasons, _when_else_, NoneHolds, First, this, later}
+use Rattle.reasons.specs.Reasons.{firstOf, Reasons, NoneHolds, First, this, later}
 use Rattle.reasons.proofs.FirstReason.{first-of, none-of}
 use Rattle.table.specs.Answers.{Reply, stepped, installed}
 use Rattle.reasons.specs.Checks.{openReasons, reseedReasons, drawReasons, freshDrawReasons, closeReasons, inquireReasons}
 use Rattle.table.specs.Calls.{refusal, service, Call, opens, reseeds, draws, freshDraws, closes, inquires, reply, reasonsOf}
 use Rattle.reasons.proofs.Decisions.{refusing, serving}
+use Rattle.table.proofs.Exits.{first-refuses, none-refuses}
 use Rattle.demands.proofs.Outcome.{Outcome, outcome}
 use Rattle.demands.specs.Calls.{number, order}
 use Rattle.demands.specs.Outcomes.{numbersOf, Answered, serves, refuses}
@@ -34,14 +35,6 @@ in-order t (inquires handle) = refl
 first-listed : {n : ℕ} {reasons : Reasons} → First n reasons → Listed n (numbersOf reasons)
 first-listed this = here
 first-listed (later f) = there (first-listed f)
-
-first-one : {n m : ℕ} {reasons : Reasons} → First n reasons → First m reasons → n ≡ m
-first-one this this = refl
-first-one (later f) (later g) = first-one f g
-
-no-reason-first : {n : ℕ} (reasons : Reasons) → First n reasons → NoneHolds reasons → ⊥
-no-reason-first (n when holds else rest) this none = false≢true (sym (none .0))
-no-reason-first (number when holds else rest) (later f) none = no-reason-first rest f (none .1)
 
 never-next : {n : ℕ} → suc n ≡ 0 → ⊥
 never-next h = omega arith
@@ -66,11 +59,7 @@ module _ (t : Table) (c : Call) where
 
   -- refused by a reason: the table and the output are equal, and 0 blocks and value 0 are reported
   pub refusal-keeps : {n : ℕ} → First n (reasonsOf t c) → reply t c ≡ refusal t c n
-  refusal-keeps {n} first = go answered
-    where
-      go : Answered t c (reply t c) → reply t c ≡ refusal t c n
-      go (serves none is) = absurd (no-reason-first (reasonsOf t c) first none)
-      go (refuses m f is) = is ∙ ap (refusal t c) (first-one f first)
+  refusal-keeps = first-refuses t c
 
   -- with the reason's number
   pub number-first : {n : ℕ} → First n (reasonsOf t c) → number t c ≡ n
@@ -78,11 +67,7 @@ module _ (t : Table) (c : Call) where
 
   -- and served where there is none
   pub none-serves : NoneHolds (reasonsOf t c) → reply t c ≡ service t c
-  none-serves none = go answered
-    where
-      go : Answered t c (reply t c) → reply t c ≡ service t c
-      go (serves none is) = is
-      go (refuses m f is) = absurd (no-reason-first (reasonsOf t c) f none)
+  none-serves = none-refuses t c
 
   -- the number is 0 whenever no reason holds, and only then
   pub none-served : NoneHolds (reasonsOf t c) → number t c ≡ 0
@@ -115,7 +100,7 @@ module _ (t : Table) (c : Call) where
       go (refuses m f is) =
           inr (subst (λ k. Listed k (order c)) (sym (number-first f)) (subst (Listed (suc m)) (in-order t c) (first-listed f)))
 
-  -- both in one equation
+  -- in one equation: the first reason's number, and 0 where none holds
   pub number-is : number t c ≡ firstOf (reasonsOf t c)
   number-is = go answered
     where
@@ -124,9 +109,9 @@ module _ (t : Table) (c : Call) where
       go (refuses m f is) = number-first f ∙ sym (first-of (reasonsOf t c) f)
 
 -- on the fresh table an opening is decided by its settings and lengths
-pub fresh-answered : {least-entropy least-nonce k : ℕ} (mechanism asked : ℕ) (entropy nonce : List ℕ)
-    → length entropy ≡ least-entropy → length nonce ≡ least-nonce
-    → firstOf (openReasons true mechanism asked 1 least-entropy least-nonce 0 0 0) ≡ k
+pub fresh-answered : {e-length n-length k : ℕ} (mechanism asked : ℕ) (entropy nonce : List ℕ)
+    → length entropy ≡ e-length → length nonce ≡ n-length
+    → firstOf (openReasons true mechanism asked 1 e-length n-length 0 0 0) ≡ k
     → number freshTable (opens mechanism asked 1 false entropy nonce []) ≡ k
 unfolding lowestFree slotAt lastSerial freshTable
 fresh-answered mechanism asked entropy nonce es ns is =

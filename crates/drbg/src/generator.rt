@@ -46,25 +46,25 @@ pub fn reseeded<'a>(mechanism: u8, g: Generator, entropy: &'a [u8], additional: 
 }
 
 // §9.3.1, step 8.
-pub fn drawn(mechanism: u8, g: Generator, out: &mut [u8], additional: &[u8]) -> Served
+pub fn drawn(mechanism: u8, g: Generator, additional: &[u8], out: &mut [u8]) -> Served
     requires { ⌜ (length (now out) ≤ 65536) × (length (now additional) ≤ 1024) × (g .counter < 2 ^ 63) ⌝ }
     ensures is { λ r. ⌜ record { served = r; output = now (out .exit) } ≡ filled (draw sha256 (mechanismOf mechanism)
         (stateOf (mechanismOf mechanism) g) (length (now (out .entry))) (now (additional .entry))) ⌝ }
     ensures few { λ r. ⌜ r .blocks ≤ 8288 ⌝ }
 {
     if mechanism == 1 {
-        return hmac_drawn(g, out, additional);
+        return hmac_drawn(g, additional, out);
     }
-    hash_drawn(g, out, additional)
+    hash_drawn(g, additional, out)
 }
 
 // §9.3.1, steps 7 and 8.
 pub fn fresh_drawn<'a>(
     mechanism: u8,
     g: Generator,
-    out: &mut [u8],
     entropy: &'a [u8],
     additional: &'a [u8],
+    out: &mut [u8],
 ) -> Served
     requires { ⌜ (length (now out) ≤ 65536) × (length (now entropy) ≤ 1024) × (length (now additional) ≤ 1024) ⌝ }
     ensures { λ r. ⌜ record { served = r; output = now (out .exit) } ≡ filled (freshDraw sha256 (mechanismOf mechanism)
@@ -73,7 +73,7 @@ pub fn fresh_drawn<'a>(
     let seeded = reseeded(mechanism, g, entropy, additional);
     let next = seeded.generator;
     let none = &additional[..0];
-    let last = drawn(mechanism, next, out, none);
+    let last = drawn(mechanism, next, none, out);
     let generator = last.generator;
     Served {
         generator,

@@ -60,7 +60,7 @@ pub fn hash_reseeded<'a>(g: Generator, entropy: &'a [u8], additional: &'a [u8]) 
 }
 
 // §10.1.1.4
-pub fn hash_drawn(g: Generator, out: &mut [u8], additional: &[u8]) -> Served
+pub fn hash_drawn(g: Generator, additional: &[u8], out: &mut [u8]) -> Served
     requires { ⌜ (length (now out) ≤ 65536) × (length (now additional) ≤ 1024) × (g .counter < 2 ^ 63) ⌝ }
     ensures is { λ r. ⌜ record { served = r; output = now (out .exit) }
         ≡ filled (draw sha256 Hash-DRBG (stateOf Hash-DRBG g) (length (now (out .entry))) (now (additional .entry))) ⌝ }

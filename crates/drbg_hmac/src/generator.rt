@@ -75,7 +75,7 @@ pub fn hmac_reseeded<'a>(g: Generator, entropy: &'a [u8], additional: &'a [u8]) 
 }
 
 // §10.1.2.5
-pub fn hmac_drawn(g: Generator, out: &mut [u8], additional: &[u8]) -> Served
+pub fn hmac_drawn(g: Generator, additional: &[u8], out: &mut [u8]) -> Served
     requires { ⌜ (length (now out) ≤ 65536) × (length (now additional) ≤ 1024) × (g .counter < 2 ^ 63) ⌝ }
     ensures is { λ r. ⌜ record { served = r; output = now (out .exit) }
         ≡ filled (draw sha256 HMAC-DRBG (stateOf HMAC-DRBG g) (length (now (out .entry))) (now (additional .entry))) ⌝ }

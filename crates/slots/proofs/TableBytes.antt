@@ -1,16 +1,16 @@
--- A table and its 2,148 bytes: nothing is lost either way, and a slot or the last serial put in. Assumes nothing.
+-- A table and its 2,148 bytes: nothing is lost either way, a slot or the last serial put in, and whose byte stands where. Assumes nothing.
 use Rattle.slots.specs.Sizes.{fieldSize, strengthAt, intervalAt, counterAt, serialAt, firstAt, secondAt, slotSize, lastAt, tableSize}
 use mathlib.Core.Path.{_≡_, refl, sym, ap, ap₂, subst, _∙_}
 use mathlib.Core.List.{List, [], _∷_, _++_, append-assoc, append-nil}
-use Prim.Native.Nat.{ℕ, zero, suc, _+_, _-_, _*_, _^_, _≤_, _<_, suc-le-suc}
+use Prim.Native.Nat.{ℕ, zero, suc, _+_, _-_, _*_, _/_, _%_, _^_, _≤_, _<_, suc-le-suc}
 use native.Mathlib.Nat.{le-of-eq, not-suc-le-zero, le-of-suc-le-suc, zero-lt-suc}
 use native.Mathlib.Omega.{arith}
 use lib.Dec.{lit≤}
 use lib.ListN.{length, take, drop, getD, set, replicate, length-append, length-drop, take-append-drop, drop-of-length-le}
-use lib.Seq.{take-add, drop-drop, take-all, take-at, drop-at, length-take-le, paste}
+use lib.Seq.{take-add, drop-drop, take-all, take-at, drop-at, length-take-le, getD-take, getD-drop, paste}
 use Rattle.standard.specs.Strings.{numberOf, Bytes}
 use Rattle.standard.proofs.Strings.{bytes-take, bytes-drop}
-use Rattle.slots.specs.Layout.{noSlot, slotAt, withSlot, withLastSerial, freshTable, Table}
+use Rattle.slots.specs.Layout.{noSlot, slotAt, withSlot, lastSerial, withLastSerial, freshTable, Table}
 use Rattle.slots.specs.declared.slot.Slot.{Slot}
 use Rattle.slots.specs.Numbers.{part, fromLittleEndian, littleEndian}
 use Rattle.slots.specs.Slots.{slotBytes, slotFrom}
@@ -142,18 +142,36 @@ last-put u serial {e} {f} is sized put =
     (drop-of-length-le e (le-of-eq sized)) ∙
     append-nil (slotsBytes (u .slots) ++ littleEndian 4 serial)
 
+-- the bytes of the first slot, and those behind it
+module _ (s : Slot) (fits : Fits s) (more rest : List ℕ) where
+  own-bytes : take slotSize ((slotBytes s ++ more) ++ rest) ≡ slotBytes s
+  own-bytes =
+      ap (take slotSize) (append-assoc (slotBytes s) more rest) ∙ take-at (slotBytes s) (more ++ rest) slotSize (length-slotBytes s fits)
+
+  bytes-behind : drop slotSize ((slotBytes s ++ more) ++ rest) ≡ more ++ rest
+  bytes-behind =
+      ap (drop slotSize) (append-assoc (slotBytes s) more rest) ∙ drop-at (slotBytes s) (more ++ rest) slotSize (length-slotBytes s fits)
+
 pub slots-from : (slots : List Slot) (rest : List ℕ) → ((i : ℕ) → i < length slots → Fits (getD slots i noSlot))
     → slotsFrom (length slots) (slotsBytes slots ++ rest) ≡ slots
 unfolding slotsBytes slotsFrom
 slots-from [] rest fit = refl
 slots-from (s ∷ slots) rest fit =
-    let whole = length-slotBytes s (fit 0 (zero-lt-suc (length slots))) in
-    let apart = append-assoc (slotBytes s) (slotsBytes slots) rest in
-    ap₂ _∷_
-    (ap slotFrom (ap (take slotSize) apart ∙ take-at (slotBytes s) (slotsBytes slots ++ rest) slotSize whole) ∙
-    slotFrom-bytes s (fit 0 (zero-lt-suc (length slots))))
-    (ap (slotsFrom (length slots)) (ap (drop slotSize) apart ∙ drop-at (slotBytes s) (slotsBytes slots ++ rest) slotSize whole) ∙
+    let own = fit 0 (zero-lt-suc (length slots)) in
+    ap₂ _∷_ (ap slotFrom (own-bytes s own (slotsBytes slots) rest) ∙ slotFrom-bytes s own)
+    (ap (slotsFrom (length slots)) (bytes-behind s own (slotsBytes slots) rest) ∙
     slots-from slots rest (λ i below. fit (suc i) (suc-le-suc below)))
+
+-- the bytes in a slot's place are the slot's
+slots-part : (slots : List Slot) (rest : List ℕ) → ((i : ℕ) → i < length slots → Fits (getD slots i noSlot)) → (i : ℕ) → i < length slots
+    → part (slotSize * i) slotSize (slotsBytes slots ++ rest) ≡ slotBytes (getD slots i noSlot)
+unfolding slotsBytes
+slots-part [] rest fit i room = absurd (not-suc-le-zero room)
+slots-part (s ∷ slots) rest fit zero room = own-bytes s (fit 0 (zero-lt-suc (length slots))) (slotsBytes slots) rest
+slots-part (s ∷ slots) rest fit (suc i) room =
+    let behind = bytes-behind s (fit 0 (zero-lt-suc (length slots))) (slotsBytes slots) rest in
+    ap (take slotSize) (sym (drop-next i ((slotBytes s ++ slotsBytes slots) ++ rest)) ∙ ap (drop (slotSize * i)) behind) ∙
+    slots-part slots rest (λ j below. fit (suc j) (suc-le-suc below)) i (le-of-suc-le-suc room)
 
 length-slots : (slots : List Slot) → ((i : ℕ) → i < length slots → Fits (getD slots i noSlot))
     → length (slotsBytes slots) ≡ slotSize * length slots
@@ -176,14 +194,22 @@ module _ (t : Table) (m : Machine t) where
   unfolding tableBytes
   length-tableBytes = length-append (slotsBytes (t .slots)) (littleEndian 4 (t .last)) ∙ ap₂ _+_ front (length-littleEndian 4 (t .last))
 
+  slot-part : (i : ℕ) → i < 16 → part (slotSize * i) slotSize (tableBytes t) ≡ slotBytes (slotAt t i)
+  unfolding tableBytes slotAt
+  slot-part i room = slots-part (t .slots) (littleEndian 4 (t .last)) fit i (subst (λ n. i < n) (sym (m .sixteen)) room)
+
+  last-part : drop lastAt (tableBytes t) ≡ littleEndian 4 (lastSerial t)
+  unfolding tableBytes lastSerial
+  last-part = drop-at (slotsBytes (t .slots)) (littleEndian 4 (t .last)) lastAt front
+
   -- from the table to the bytes and back
   pub tableOf-bytes : tableOf (tableBytes t) ≡ t
-  unfolding tableOf tableBytes
+  unfolding tableOf tableBytes lastSerial
   tableOf-bytes =
       let last = littleEndian 4 (t .last) in
       ap₂ (λ slots n. record { slots = slots; last = n })
       (ap (λ n. slotsFrom n (slotsBytes (t .slots) ++ last)) (sym (m .sixteen)) ∙ slots-from (t .slots) last fit)
-      (ap (λ s. fromLittleEndian (take 4 s)) (drop-at (slotsBytes (t .slots)) last lastAt front) ∙
+      (ap (λ s. fromLittleEndian (take 4 s)) last-part ∙
       ap fromLittleEndian (take-all 4 last (le-of-eq (length-littleEndian 4 (t .last)))) ∙
       from-littleEndian 4 (t .last) (m .last))
 
@@ -193,6 +219,35 @@ module _ (t : Table) (m : Machine t) where
   last-kept serial =
       take-at (slotsBytes (t .slots)) (littleEndian 4 serial) lastAt front ∙
       sym (take-at (slotsBytes (t .slots)) (littleEndian 4 (t .last)) lastAt front)
+
+-- a byte by the slot in whose place it stands, or behind the slots
+in-slot : (s : List ℕ) (at : ℕ) → getD (part (slotSize * (at / slotSize)) slotSize s) (at % slotSize) 0 ≡ getD s at 0
+in-slot s at =
+    let back : slotSize * (at / slotSize) + at % slotSize ≡ at = omega arith in
+    getD-take slotSize (drop (slotSize * (at / slotSize)) s) (at % slotSize) 0 (omega arith) ∙
+    getD-drop (slotSize * (at / slotSize)) s (at % slotSize) 0 ∙
+    ap (λ k. getD s k 0) back
+
+in-last : (s : List ℕ) (at : ℕ) → lastAt ≤ at → getD (drop lastAt s) (at - lastAt) 0 ≡ getD s at 0
+in-last s at past =
+    let back : lastAt + (at - lastAt) ≡ at = omega arith in
+    getD-drop lastAt s (at - lastAt) 0 ∙ ap (λ k. getD s k 0) back
+
+-- so two tables have the same byte there if they have the same slot, or the same last serial
+module _ (t u : Table) (mt : Machine t) (mu : Machine u) (at : ℕ) where
+  pub same-slot : at < lastAt → slotAt u (at / slotSize) ≡ slotAt t (at / slotSize) → getD (tableBytes u) at 0 ≡ getD (tableBytes t) at 0
+  same-slot before same =
+      let i : ℕ = at / slotSize in
+      sym (in-slot (tableBytes u) at) ∙
+      ap (λ p. getD p (at % slotSize) 0)
+      (slot-part u mu i (omega arith) ∙ ap slotBytes same ∙ sym (slot-part t mt i (omega arith))) ∙
+      in-slot (tableBytes t) at
+
+  pub same-last : lastAt ≤ at → lastSerial u ≡ lastSerial t → getD (tableBytes u) at 0 ≡ getD (tableBytes t) at 0
+  same-last past same =
+      sym (in-last (tableBytes u) at past) ∙
+      ap (λ p. getD p (at - lastAt) 0) (last-part u mu ∙ ap (littleEndian 4) same ∙ sym (last-part t mt)) ∙
+      in-last (tableBytes t) at past
 
 -- all bytes zero are the fresh table
 pub fresh-bytes : tableOf (replicate tableSize 0) ≡ freshTable

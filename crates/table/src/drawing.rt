@@ -33,6 +33,6 @@ pub fn draw(table: &mut [u8], handle: u64, strength: u64, additional: &[u8], out
     if n != 0 {
         return answers::refused(n);
     }
-    let served = generator::drawn(s.mechanism, generator_of(s), out, additional);
+    let served = generator::drawn(s.mechanism, generator_of(s), additional, out);
     answers::stepped(table, i, s, served)
 }

@@ -40,6 +40,6 @@ pub fn fresh_draw<'a>(
     if n != 0 {
         return answers::refused(n);
     }
-    let served = generator::fresh_drawn(s.mechanism, generator_of(s), out, entropy, additional);
+    let served = generator::fresh_drawn(s.mechanism, generator_of(s), entropy, additional, out);
     answers::stepped(table, i, s, served)
 }

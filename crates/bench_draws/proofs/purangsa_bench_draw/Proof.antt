@@ -76,7 +76,7 @@ returns-2 c =
     let a = start (tested took .before) .args in
     let m = mechanismOf (a .mechanism) in
     let r = done .drawn .result in
-    let out = done .drawn .last .1 .1 .0 in
+    let out = done .drawn .last .1 .1 .1 .0 in
     let held : record { first = first .put .last .0; second = second .put2 .last .0; blocks = r .blocks; output = out } ≡ heldIn r out =
     λ i. record { first = first .put .ensures i; second = second .put2 .ensures i; blocks = r .blocks; output = out } in
     let drawn =

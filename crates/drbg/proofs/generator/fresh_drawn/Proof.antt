@@ -38,7 +38,7 @@ returns c =
     let a = seeded .before .before .before .before .args in
     let m = mechanismOf (a .mechanism) in
     let n = length (a .out .now) in
-    let last : _≡_ {A = Filled} (record { served = drawn .drawn .result; output = drawn .drawn .last .1 .1 .0 })
+    let last : _≡_ {A = Filled} (record { served = drawn .drawn .result; output = drawn .drawn .last .1 .1 .1 .0 })
     (filled (draw sha256 m (stateOf m (seeded .reseeded .result .generator)) n [])) = drawn .drawn .ensures .0 in
     fresh-drawn m (stateOf m (a .g)) n (a .entropy .now) (a .additional .now) (seeded .reseeded .result) (drawn .drawn .result) _
     (seeded .reseeded .ensures .0) last

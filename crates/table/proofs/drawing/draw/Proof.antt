@@ -104,7 +104,7 @@ returns-4 c =
     let served = made .before in
     let at = served .before in
     let a = begun at .args in
-    ap (λ (d : Done). record { told = d .told; table = d .table; output = filled .drawn .last .1 .1 .0 })
+    ap (λ (d : Done). record { told = d .told; table = d .table; output = filled .drawn .last .1 .1 .1 .0 })
     (c .before .before .stepped .ensures) ∙
     served-on _ _ (scanned (scan (looked (found at))) .sized) (first at) (served .if2 .left)
     (draw-served (names-it (found at)) (slot at .slot-at .ensures) (a .strength) (a .out .now) (a .additional .now)
