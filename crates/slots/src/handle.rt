@@ -19,7 +19,8 @@ pub fn look_up(table: &[u8], handle: u64) -> Found
 {
     let i = (handle % 16) as usize;
     let s = layout::slot_at(table, i);
-    if (s.mechanism != 0) & (s.serial as u64 == handle / 16) {
+    let serial = s.serial as u64;
+    if (s.mechanism != 0) & (serial == handle / 16) {
         return Found::At(i);
     }
     Found::Nothing

@@ -1,6 +1,5 @@
 -- Step 3's T₁, sum by sum; Ch takes e, f and g in this order. Assumes nothing.
 use mathlib.Core.Path.{_≡_, _∙_}
-use native.Mathlib.Omega.{arith}
 use Rattle.standard.specs.Words.{Ch}
 use Rattle.standard.specs.Hash.{T₁}
 use borrow.Author.Needs.{needs}
@@ -16,7 +15,7 @@ returns c =
     let first = choice .before in
     let mixed = first .before in
     let s = mixed .before .args .s in
-    let chosen : choice .ch .result ≡ Ch 32 (s .e) (s .f) (s .g) = omega (arith, choice .ch .ensures) in
+    let chosen : choice .ch .result ≡ Ch 32 (s .e) (s .f) (s .g) = choice .ch .ensures in
     c .sum4 .ensures ∙
     rw (third .sum3 .ensures, second .sum2 .ensures, chosen, first .sum .ensures, mixed .upper-sigma-1 .ensures)
 

@@ -69,7 +69,7 @@ loop-again c =
     let put : stored .store .last .0 ≡ paste (l .out) (l .at) w (min 32 (length (l .out) - l .at)) = stored .store .ensures in
     let size : length temp ≡ l .at = length-hashgenTurns sha256 v (l .at / 32) ∙ omega arith in (
       search needs,
-      search needs,
+      omega arith,
       search needs,
       search needs,
       turn-stored temp w (l .out) _ (l .at) _ more (l .inv .2) (omega arith) size (omega arith) (l .inv .4) put,
