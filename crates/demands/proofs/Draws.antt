@@ -107,7 +107,7 @@ module _ (h : ℕ) (t : Table) (whole : sound t ≡ true) (is : names t h ≡ tr
       go (opens m s i f e n p) (serving ok) q = alone h t _ refl is (free-elsewhere _ (may-open ok .slot-free) (lastSerial t + 1))
       go (reseeds handle e a) (serving ok) q =
           step-at handle _ (sym (named-is t handle) ∙ may-reseed ok .named-so)
-          (λ same. absurd (false≢true (cc (eq-eqb handle h same)))) (λ other. refl)
+          (λ same. absurd (false≢true (sym q ∙ eq-eqb handle h same))) (λ other. refl)
       go (draws handle k o a) (serving ok) q =
           let s = slotOf t handle in
           let named = sym (named-is t handle) ∙ may-draw ok .named-so in
@@ -122,7 +122,7 @@ module _ (h : ℕ) (t : Table) (whole : sound t ≡ true) (is : names t h ≡ tr
           (λ other. ap (λ b. cond b 1 0) (ne-eqb handle h other))
       go (freshDraws handle k o e a) (serving ok) q =
           step-at handle _ (sym (named-is t handle) ∙ may-draw-fresh ok .named-so)
-          (λ same. absurd (false≢true (cc (eq-eqb handle h same)))) (λ other. refl)
+          (λ same. absurd (false≢true (sym q ∙ eq-eqb handle h same))) (λ other. refl)
       go (closes handle) (serving ok) q =
           step-at handle freeSlot (sym (named-is t handle) ∙ may-close ok .named-so) (λ same. closed-step refl) (λ other. refl)
       go (inquires handle) (serving ok) q = alone h t t refl is refl
