@@ -1,4 +1,4 @@
--- Each reason in turn, as the definition has them; the least entropy and the least nonce are read off the rounded strength. Assumes nothing.
+-- Each reason in turn, as the definition has them; the least entropy and nonce are read off the rounded strength. Assumes nothing.
 use mathlib.Core.Path.{refl, subst}
 use Prim.Native.Nat.{ℕ, _/_}
 use borrow.Author.Needs.{needs}
@@ -43,5 +43,6 @@ returns c =
 pub open-reason-spec : {M : Type 1} → statement M
 open-reason-spec =
     tie.close
-    (tie.spec (λ c κs. search needs) (λ c. search needs) (λ c. search needs) (λ c κs. search needs) (λ c κs. search needs) (λ c κs. search needs)
-    (λ c κs. search needs) (λ c κs. search needs) (λ c κs. search needs) (λ c κs. search needs) (λ c κs. search needs) returns)
+    (tie.spec (λ c κs. search needs) (λ c. search needs) (λ c. search needs) (λ c κs. search needs) (λ c κs. search needs)
+    (λ c κs. search needs) (λ c κs. search needs) (λ c κs. search needs) (λ c κs. search needs) (λ c κs. search needs)
+    (λ c κs. search needs) returns)
