@@ -28,7 +28,8 @@ use Rattle.table.specs.Answers.{Reply, stepped, installed, withGenerator, newSl
 use Rattle.table.specs.Served.{mechanismIn, stateIn}
 use Rattle.reasons.proofs.Decisions.{refusing, serving}
 use Rattle.table.proofs.Standing.{sized-in}
-use Rattle.reasons.proofs.Allowed.{may-open, entropy-bits, nonce-bits, may-reseed, may-draw, may-draw-fresh}
+use Rattle.reasons.proofs.Allowed.{may-open, may-reseed, may-draw, may-draw-fresh}
+use Rattle.reasons.proofs.Strengths.{entropy-bits, nonce-bits}
 use Rattle.table.specs.Calls.{Call, opens, reseeds, draws, freshDraws, reply}
 use Rattle.demands.specs.Calls.{answer, number, after}
 use Rattle.demands.specs.Calls as Calls

@@ -1,11 +1,10 @@
 -- What holds of a call that no reason refuses. Assumes nothing.
 use mathlib.Core.Path.{_≡_, refl, sym}
-use mathlib.Core.Bool.{Bool, true, false, false≢true, not, _&&_, _||_, cond}
+use mathlib.Core.Bool.{Bool, true, false, false≢true, not, _&&_, _||_}
 use mathlib.Core.Logic.{_⊎_, inl, inr}
-use Prim.Native.Nat.{ℕ, _*_, _/_, _^_, _≤_}
-use native.Mathlib.Omega.{arith}
+use Prim.Native.Nat.{ℕ, _/_, _^_, _≤_}
 use borrow.Author.Tests.{ltb-false, eqb-true, eqb-false, not-false}
-use lib.Dec.{eqb, leb, ltb}
+use lib.Dec.{eqb, ltb}
 use Rattle.reasons.specs.Reasons.{NoneHolds}
 use Rattle.reasons.specs.Checks.{outside, rounded, openReasons, reseedReasons, drawReasons, freshDrawReasons, closeReasons}
 
@@ -57,26 +56,6 @@ may-open h =
       slot-free = eqb-false _ 16 (h .1 .1 .1 .1 .1 .1 .1 .0);
       serials-left = eqb-false _ 4294967295 (h .1 .1 .1 .1 .1 .1 .1 .1 .0);
     }
-
--- a strength is a whole number of times 16 bits, so its least strings hold it, and half of it, with no bit lost
-whole : (strength : ℕ) → rounded strength ≡ 16 * (rounded strength / 16)
-unfolding rounded
-whole strength = go (leb strength 112) (leb strength 128) (leb strength 192)
-  where
-    go : (a b c : Bool) →
-        let r : ℕ = cond a 112 (cond b 128 (cond c 192 256)) in
-        r ≡ 16 * (r / 16)
-    go true b c = refl
-    go false true c = refl
-    go false false true = refl
-    go false false false = refl
-
--- SP 800-90A §8.6.3, §8.6.7: entropy of the strength in bits, and a nonce of half as many
-pub entropy-bits : (strength entropy : ℕ) → rounded strength / 8 ≤ entropy → rounded strength ≤ 8 * entropy
-entropy-bits strength entropy h = omega (arith, h, whole strength)
-
-pub nonce-bits : (strength nonce : ℕ) → rounded strength / 16 ≤ nonce → rounded strength ≤ 2 * (8 * nonce)
-nonce-bits strength nonce h = omega (arith, h, whole strength)
 
 pub record MayReseed (sound named : Bool) (own entropy additional : ℕ) : Type 0 where
   pub sound-so : sound ≡ true

@@ -3,3 +3,4 @@ pub mod FirstReason
 pub mod Decisions
 pub mod Ahead
 pub mod Allowed
+pub mod Strengths

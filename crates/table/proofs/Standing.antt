@@ -8,7 +8,7 @@ use mathlib.Core.List.{List}
 use Prim.Native.Nat.{ℕ, _+_, _-_, _^_, _≤_}
 use native.Mathlib.Nat.{le-refl}
 use native.Mathlib.Omega.{arith}
-use lib.Dec.{eqb, leb, lit≤}
+use lib.Dec.{eqb, lit≤}
 use lib.ListN.{length, drop, replicate, length-append, length-replicate}
 use lib.Seq.{length-take-le, drop-at}
 use Rattle.standard.specs.State.{State}
@@ -24,6 +24,7 @@ use Rattle.slots.proofs.Flags.{or-first, or-second}
 use Rattle.slots.proofs.Zeros.{all-zero-replicate}
 use Rattle.slots.proofs.Soundness.{Field, Used}
 use Rattle.reasons.specs.Checks.{rounded}
+use Rattle.reasons.proofs.Strengths.{of-four}
 use Rattle.table.specs.Answers.{generatorOf, withGenerator, newSlot}
 use Rattle.table.specs.Served.{mechanismIn, stateIn}
 
@@ -77,16 +78,7 @@ sized-in last s u = sized-state (mechanismIn s) (generatorOf s) (u .first .bytes
 one-of-four : (strength : ℕ) →
     let r = rounded strength in
     (eqb r 112 || eqb r 128 || eqb r 192 || eqb r 256) ≡ true
-unfolding rounded
-one-of-four strength = go (leb strength 112) (leb strength 128) (leb strength 192)
-  where
-    go : (a b c : Bool) →
-        let r : ℕ = cond a 112 (cond b 128 (cond c 192 256)) in
-        (eqb r 112 || eqb r 128 || eqb r 192 || eqb r 256) ≡ true
-    go true b c = refl
-    go false true c = refl
-    go false false true = refl
-    go false false false = refl
+one-of-four = of-four (λ r. (eqb r 112 || eqb r 128 || eqb r 192 || eqb r 256) ≡ true) refl refl refl refl
 
 flag-most : (fresh : Bool) → cond fresh 1 0 ≤ 1
 flag-most true = lit≤ tt
