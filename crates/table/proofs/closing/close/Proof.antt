@@ -2,7 +2,6 @@
 use mathlib.Core.Path.{_≡_, refl, sym, ap, ap₂, _∙_}
 use mathlib.Core.List.{List, []}
 use Prim.Native.Nat.{ℕ}
-use native.Mathlib.Omega.{arith}
 use borrow.Author.Needs.{needs}
 use Rattle.slots.specs.Layout.{withSlot}
 use Rattle.slots.specs.Bytes.{tableBytes, tableOf}
@@ -60,7 +59,7 @@ returns-2 c =
     two-some
 
 put-slot-requires : tie.Need-put-slot-requires
-put-slot-requires c κs = let at = c .before .before in (scanned (scan (looked at)) .sized, omega (arith, below (names-it at)))
+put-slot-requires c κs = let at = c .before .before in (scanned (scan (looked at)) .sized, below (names-it at))
 
 returns-3 : tie.Need-returns-3
 returns-3 c =

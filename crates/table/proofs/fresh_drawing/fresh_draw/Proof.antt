@@ -2,7 +2,6 @@
 use mathlib.Core.Path.{_≡_, refl, sym, ap, _∙_}
 use mathlib.Core.List.{List}
 use Prim.Native.Nat.{ℕ}
-use native.Mathlib.Omega.{arith}
 use borrow.Author.Needs.{needs}
 use Rattle.slots.specs.Bytes.{tableOf}
 use Rattle.reasons.specs.Reasons.{firstOf}
@@ -94,7 +93,7 @@ fresh-drawn-requires c κs =
     let served = c .before .before in
     let at = served .before in
     let may = may-draw-fresh (allowed (tableOf (bytes (begun at))) (asked (begun at)) (first at) (served .if2 .left)) in
-    (omega (arith, may), omega (arith, may), omega (arith, may))
+    (may .request-most, may .entropy-most, may .additional-most)
 
 stepped-requires : tie.Need-stepped-requires
 stepped-requires c κs =

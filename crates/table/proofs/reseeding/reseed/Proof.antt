@@ -2,7 +2,6 @@
 use mathlib.Core.Path.{_≡_, refl, sym, _∙_}
 use mathlib.Core.List.{List}
 use Prim.Native.Nat.{ℕ}
-use native.Mathlib.Omega.{arith}
 use borrow.Author.Needs.{needs}
 use Rattle.slots.specs.Bytes.{tableOf}
 use Rattle.reasons.specs.Reasons.{firstOf}
@@ -89,7 +88,7 @@ reseeded-requires c κs =
     let served = c .before in
     let at = served .before in
     let may = may-reseed (allowed (tableOf (bytes (begun at))) (asked (begun at)) (first at) (served .if2 .left)) in
-    (omega (arith, may), omega (arith, may))
+    (may .entropy-most, may .additional-most)
 
 stepped-requires : tie.Need-stepped-requires
 stepped-requires c κs =
