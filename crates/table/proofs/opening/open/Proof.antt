@@ -1,9 +1,11 @@
 -- No sound table, refused by a reason, or served. Each exit cites the law of what it has found. Assumes nothing.
 use mathlib.Core.Path.{_≡_, sym, ap, ap₂, _∙_}
-use mathlib.Core.Logic.{⊎-elim}
+use mathlib.Core.Logic.{_⊎_, inl, inr}
 use mathlib.Core.List.{List, []}
 use native.Mathlib.Omega.{arith}
 use Prim.Native.Nat.{ℕ, _+_, _<_}
+use mir.Syntax.{w8}
+use mir.Val.{Fits}
 use borrow.Author.Needs.{needs}
 use Rattle.slots.specs.Layout.{withSlot, withLastSerial}
 use Rattle.slots.specs.Bytes.{tableBytes, tableOf}
@@ -81,8 +83,12 @@ returns-2 c =
     refused-on _ _ (bytes-known (known (scan at .before) .slice-known .given)) (c .refused2 .ensures) (scanned (scan at) .sized) (first at)
     (c .before .if2 .taken)
 
+kind-fits : {mechanism : ℕ} → (mechanism ≡ 1) ⊎ (mechanism ≡ 2) → Fits w8 mechanism
+kind-fits (inl one) = omega (arith, one)
+kind-fits (inr two) = omega (arith, two)
+
 cast-kind : tie.Need-cast-kind
-cast-kind c = ⊎-elim (λ one. omega (arith, one)) (λ two. omega (arith, two)) (may-open (none c) .mechanism-so)
+cast-kind c = kind-fits (may-open (none c) .mechanism-so)
 
 add-serial : tie.Need-add-serial
 add-serial c = omega (arith, serial (c .before) .last-serial .ensures, may-open (none c) .serials-left)
