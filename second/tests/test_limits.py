@@ -48,19 +48,13 @@ class Limits(unittest.TestCase):
             with self.subTest(bits):
                 self.check_found(carries(), mock.patch.object(hash_drbg, "summed", losing_carry_at(bits)))
 
-    def test_strengths(self):
-        for strength in (0, 113, 257):
-            with self.subTest(strength):
+    def test_strengths_and_fresh_rights(self):
+        for name, number in (
+                ("strength", 0), ("strength", 113), ("strength", 257), ("fresh", 2), ("fresh", 128), ("fresh", 255)):
+            with self.subTest(name, number=number):
                 self.check_found(
                     unsound_numbers(), mock.patch.object(table, "used_slot_sound", lambda slot, last: (
-                        slot.strength == strength or right_used_slot_sound(slot, last))))
-
-    def test_fresh_rights(self):
-        for fresh in (2, 128, 255):
-            with self.subTest(fresh):
-                self.check_found(
-                    unsound_numbers(), mock.patch.object(table, "used_slot_sound", lambda slot, last: (
-                        slot.fresh == fresh or right_used_slot_sound(slot, last))))
+                        getattr(slot, name) == number or right_used_slot_sound(slot, last))))
 
     def test_order_of_a_draw(self):
         self.check_found(two_reasons(), mock.patch.object(calls, "request_refusal", additional_before_request))

@@ -1,7 +1,7 @@
 -- What a sound table's slots are, and that one sound slot more keeps a table sound. Assumes nothing.
 use Rattle.slots.specs.Sizes.{fieldSize}
 use mathlib.Core.Path.{_≡_, refl, sym, ap, subst, _∙_}
-use mathlib.Core.Bool.{true, false, false≢true, not, _||_}
+use mathlib.Core.Bool.{true, false≢true, not, _||_}
 use mathlib.Core.Logic.{_⊎_, inl, inr, ⊎-elim}
 use mathlib.Core.List.{List}
 use Prim.Native.Nat.{ℕ, zero, suc, _+_, _^_, _≤_, _<_}

@@ -7,7 +7,7 @@ use Rattle.slots.specs.Bytes.{tableOf}
 use Rattle.reasons.specs.Reasons.{firstOf}
 use Rattle.reasons.proofs.Allowed.{may-draw}
 use Rattle.table.specs.Calls.{Call, draws, draw, reasonsOf}
-use Rattle.table.specs.OnBytes.{Done, toldRefused}
+use Rattle.table.specs.OnBytes.{Done}
 use Rattle.table.proofs.Outcomes.{Named, names-slot, unnamed, below, counter-fits}
 use Rattle.table.proofs.Exits.{first-unnamed, first-draw, draw-served, allowed}
 use Rattle.table.proofs.OnBytes.{Whole, whole, bytes-known, served-on, refused-on, unsound-on, two-some}
@@ -69,8 +69,7 @@ returns-2 c =
     let w = scanned (scan at) in
     let t = tableOf (bytes (start at)) in
     let handle = start at .args .handle in
-    let told : c .refused2 .result ≡ toldRefused 2 = c .refused2 .ensures in
-    refused-on _ _ (bytes-known (known (scan at .before) .slice-known .given)) told (w .sized)
+    refused-on _ _ (bytes-known (known (scan at .before) .slice-known .given)) (c .refused2 .ensures) (w .sized)
     (first-unnamed t (asked (start at)) handle draw (sym (w .sound))
     (unnamed t handle (at .look-up .ensures) (c .before .enum-told .given .1)))
     two-some

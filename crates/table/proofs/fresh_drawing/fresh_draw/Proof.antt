@@ -7,7 +7,7 @@ use Rattle.slots.specs.Bytes.{tableOf}
 use Rattle.reasons.specs.Reasons.{firstOf}
 use Rattle.reasons.proofs.Allowed.{may-draw-fresh}
 use Rattle.table.specs.Calls.{Call, freshDraws, fresh-draw, reasonsOf}
-use Rattle.table.specs.OnBytes.{Done, toldRefused}
+use Rattle.table.specs.OnBytes.{Done}
 use Rattle.table.proofs.Outcomes.{Named, names-slot, unnamed, below}
 use Rattle.table.proofs.Exits.{first-unnamed, first-fresh-draw, fresh-draw-served, allowed}
 use Rattle.table.proofs.OnBytes.{Whole, whole, bytes-known, served-on, refused-on, unsound-on, two-some}
@@ -72,8 +72,7 @@ returns-2 c =
     let w = scanned (scan at) in
     let t = tableOf (bytes (start at)) in
     let handle = start at .args .handle in
-    let told : c .refused2 .result ≡ toldRefused 2 = c .refused2 .ensures in
-    refused-on _ _ (bytes-known (known (scan at .before) .slice-known .given)) told (w .sized)
+    refused-on _ _ (bytes-known (known (scan at .before) .slice-known .given)) (c .refused2 .ensures) (w .sized)
     (first-unnamed t (asked (start at)) handle fresh-draw (sym (w .sound))
     (unnamed t handle (at .look-up .ensures) (c .before .enum-told .given .1)))
     two-some
