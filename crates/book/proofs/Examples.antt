@@ -9,7 +9,9 @@ use Rattle.book.specs.Strings.{stringAt, stringBytes}
 use Rattle.book.specs.Records.{openAt, reseedAt, drawAt, freshDrawAt, closeAt, inquireAt, fieldsAt, recordAt}
 use Rattle.book.specs.Records.{opens, draws, closes, inquires}
 use Rattle.book.specs.Books.{more, end, contentsFrom, contentsAt, contentsOf, bookBytes}
-use Rattle.book.specs.Lines.{digit, digits, decimal, hex, valueText, line, badLine}
+use Rattle.text.specs.Ascii.{ascii}
+use Rattle.text.specs.Digits.{digit, digits, decimal, hex}
+use Rattle.book.specs.Lines.{valueText, lineEnd, line, badLine}
 use Rattle.book.specs.declared.string.Part.{Part}
 use Rattle.book.specs.declared.record.Record.the-variants.{Open, Draw, Close, Inquire}
 
@@ -44,19 +46,19 @@ example-written = refl
 
 -- its six lines
 example-lines :
-    (line 1 0 18 16 [] ≡ 49 ∷ 32 ∷ 48 ∷ 32 ∷ 49 ∷ 56 ∷ 32 ∷ 49 ∷ 54 ∷ 10 ∷ [])
-    × (line 3 0 8 0 [] ≡ 51 ∷ 32 ∷ 48 ∷ 32 ∷ 56 ∷ 32 ∷ 45 ∷ 10 ∷ [])
-    × (line 3 12 0 0 [] ≡ 51 ∷ 32 ∷ 49 ∷ 50 ∷ 32 ∷ 48 ∷ 32 ∷ 45 ∷ 10 ∷ [])
-    × (line 6 0 0 0 [] ≡ 54 ∷ 32 ∷ 48 ∷ 32 ∷ 48 ∷ 32 ∷ 48 ∷ 10 ∷ [])
-    × (line 5 0 0 0 [] ≡ 53 ∷ 32 ∷ 48 ∷ 32 ∷ 48 ∷ 32 ∷ 45 ∷ 10 ∷ [])
-    × (line 5 2 0 0 [] ≡ 53 ∷ 32 ∷ 50 ∷ 32 ∷ 48 ∷ 32 ∷ 45 ∷ 10 ∷ [])
-unfolding line valueText decimal digits digit
+    (line 1 0 18 16 [] ≡ ascii "1 0 18 16" ++ lineEnd)
+    × (line 3 0 8 0 [] ≡ ascii "3 0 8 -" ++ lineEnd)
+    × (line 3 12 0 0 [] ≡ ascii "3 12 0 -" ++ lineEnd)
+    × (line 6 0 0 0 [] ≡ ascii "6 0 0 0" ++ lineEnd)
+    × (line 5 0 0 0 [] ≡ ascii "5 0 0 -" ++ lineEnd)
+    × (line 5 2 0 0 [] ≡ ascii "5 2 0 -" ++ lineEnd)
+unfolding line valueText decimal digits digit ascii
 example-lines = (refl, refl, refl, refl, refl, refl)
 
 -- two bytes drawn, and a record at byte 33 that can't be read
-more-lines : (line 4 0 12 0 (0x0f ∷ 0xa0 ∷ []) ≡ 52 ∷ 32 ∷ 48 ∷ 32 ∷ 49 ∷ 50 ∷ 32 ∷ 48 ∷ 102 ∷ 97 ∷ 48 ∷ 10 ∷ [])
-    × (badLine 33 ≡ 98 ∷ 111 ∷ 111 ∷ 107 ∷ 32 ∷ 51 ∷ 51 ∷ 10 ∷ [])
-unfolding line badLine valueText decimal digits digit hex
+more-lines : (line 4 0 12 0 (0x0f ∷ 0xa0 ∷ []) ≡ ascii "4 0 12 0fa0" ++ lineEnd)
+    × (badLine 33 ≡ ascii "book 33" ++ lineEnd)
+unfolding line badLine valueText decimal digits digit hex ascii
 more-lines = (refl, refl)
 
 -- the largest number; a tenth group of 2; eleven groups; a needless group; cut short

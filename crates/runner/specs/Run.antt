@@ -12,7 +12,7 @@ use Rattle.table.specs.OnBytes.{Done, inBytes}
 use Rattle.book.specs.Lines.{line, badLine}
 use Rattle.book.specs.Records as records
 use Rattle.book.specs.Records.{Meaning, meaningOf, kindOf}
-use Rattle.book.specs.Writing.{Appends}
+use Rattle.text.specs.Writing.{Appends}
 use Rattle.book.specs.Books.{Contents, more, end, stopped, contentsAt, contentsOf}
 use Rattle.runner.specs.declared.Answered.{Answered}
 

@@ -3,7 +3,8 @@ use Prim.Native.Nat.{_≤_}
 use mathlib.Core.Path.{refl, subst, _∙_}
 use native.Mathlib.Omega.{arith}
 use Rattle.standard.specs.Strings.{Bytes}
-use Rattle.runner.proofs.Runs.{ends-inside, first-long, first-short}
+use Rattle.text.proofs.Writing.{ends-inside}
+use Rattle.runner.proofs.Runs.{first-long, first-short}
 use borrow.Author.Needs.{needs}
 use Rattle.runner.proofs.run_first.Statement.{statement}
 use Rattle.runner.proofs.run_first.Tie as tie

@@ -1,0 +1,3 @@
+-- Laws of digits and of text that is written.
+pub mod Writing
+pub mod Digits
