@@ -1,0 +1,3 @@
+-- The lines of a file.
+pub mod Lines
+pub mod Held
