@@ -1,0 +1,3 @@
+-- What is reported on a response file.
+pub mod Report
+pub mod Pieces
