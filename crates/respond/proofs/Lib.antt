@@ -1,0 +1,2 @@
+-- The laws that the program's proofs cite.
+pub mod Handed

@@ -1,0 +1,2 @@
+-- How a response file is read.
+pub mod Reading
