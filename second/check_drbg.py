@@ -6,12 +6,10 @@ calls on a fresh table. Both must give the returned bits in the last of two draw
 
 import sys
 
-from answers import SERVED
-from calls import draw_call, fresh_draw_call, open_call, reseed_call
+import case_calls
 from hashing import Hasher
 from mechanisms import HASH_DRBG, HMAC_DRBG, MECHANISMS, fresh_drawn
-from records import DRAW, FRESH_DRAW, RESEED
-from table import FRESH_TABLE
+from records import DRAW, RESEED
 from tally import checked, folder_named
 from vectors import PUBLISHED, cases
 
@@ -20,33 +18,14 @@ OPENING = ("EntropyInput", "Nonce", "PersonalizationString")
 OTHERS = ("COUNT", "ReturnedBits")
 
 
-class Refused(Exception):
-    """A call of a case that should have been served."""
-
-
 def opening(case):
     return [case.string(name) for name in OPENING]
 
 
 def steps_of(case):
-    """What the case does after its opening, in order, as (kind, entropy, additional)."""
-    steps = []
-    for name, value in case.fields:
-        if name in OPENING or name in OTHERS:
-            continue
-        text = bytes.fromhex(value)
-        if name == "EntropyInputReseed":
-            reseed_entropy = text
-        elif name == "AdditionalInputReseed":
-            steps.append((RESEED, reseed_entropy, text))
-        elif name == "AdditionalInput":
-            steps.append((DRAW, b"", text))
-        elif name == "EntropyInputPR":      # makes the draw before it a fresh one
-            _, _, additional = steps.pop()
-            steps.append((FRESH_DRAW, text, additional))
-        else:
-            raise ValueError(f"line {case.line}: a case with an unknown field {name}")
-    return steps
+    return case_calls.steps_of(
+        (name, bytes.fromhex(value)) for name, value in case.fields
+        if name not in OPENING and name not in OTHERS)
 
 
 def by_mechanism(number, case, length):
@@ -71,27 +50,8 @@ def by_calls(number, case, length):
     """Every draw's bytes, from the calls on a fresh table."""
     strength = int(case.headings["EntropyInputLen"])
     fresh_right = case.headings["PredictionResistance"] == "True"
-    answer = served(open_call(FRESH_TABLE, number, strength, DRAWS, fresh_right, *opening(case)))
-    handle = answer.value
-    lent = bytes(length)
-    draws = []
-    for kind, entropy, additional in steps_of(case):
-        table = answer.table
-        if kind == RESEED:
-            answer = served(reseed_call(table, handle, entropy, additional))
-        elif kind == DRAW:
-            answer = served(draw_call(table, handle, strength, lent, additional))
-            draws.append(answer.output)
-        else:
-            answer = served(fresh_draw_call(table, handle, strength, lent, entropy, additional))
-            draws.append(answer.output)
-    return draws
-
-
-def served(answer):
-    if answer.number != SERVED:
-        raise Refused
-    return answer
+    return case_calls.draws(
+        (number, strength, DRAWS, fresh_right, *opening(case)), steps_of(case), strength, length)
 
 
 def case_holds(number, case):
@@ -99,7 +59,7 @@ def case_holds(number, case):
     alone = by_mechanism(number, case, len(expected))
     try:
         called = by_calls(number, case, len(expected))
-    except Refused:
+    except case_calls.Refused:
         return False
     return alone == called and len(alone) == DRAWS and alone[-1] == expected
 

@@ -7,13 +7,12 @@ that fails is kept in target/failed/.
 """
 
 import random
-import resource
 import subprocess
-import time
 
 from book import record_bytes
 from calls import MOST_ADDITIONAL, MOST_PERSONALIZATION, entropy_fits, nonce_fits
 from check_drbg import CHECKS, DRAWS, opening as opening_strings, steps_of
+from compared import SECONDS, counted, in_pieces, keep, small_stack
 from file_runs import CRATE
 from make_books import output_of
 from mechanisms import HASH_DRBG, HMAC_DRBG
@@ -24,11 +23,8 @@ from tally import Tally
 from vectors import PUBLISHED, cases
 from writer import Writer, close, draw, fresh_draw, inquire, reseed
 
-FAILED = CRATE.parent.parent / "target" / "failed"
 SLOTS = 16
 RANDOM_BOOKS = 600
-STACK = 1024 * 1024
-SECONDS = 60        # for one run; the longest takes a small part of one
 
 
 class Program:
@@ -50,16 +46,10 @@ class Program:
     def note(self, held, name, book):
         self.tally.note(held, name)
         if not held:
-            keep(name, book)
+            keep(f"{name}.book", book)
 
     def prints(self, name, book, expected, **settings):
         self.note(self.output(book, **settings) == expected, name, book)
-
-
-def keep(name, book):
-    FAILED.mkdir(parents=True, exist_ok=True)
-    safe = "".join(sign if sign.isalnum() else "-" for sign in name)
-    (FAILED / f"{safe}.book").write_bytes(book)
 
 
 # NIST's cases
@@ -158,25 +148,10 @@ def compare_random(program, seed):
 
 # The way that a book comes in, and a small stack
 
-def in_pieces(path, book, size):
-    """What the program prints when the book comes in pieces, with pauses at its start and its end."""
-    with subprocess.Popen(
-            [path], stdin=subprocess.PIPE, stdout=subprocess.PIPE, bufsize=0) as running:
-        try:
-            for at in range(0, len(book), size):
-                running.stdin.write(book[at:at + size])
-                if at < 16 * size or len(book) - at < 16 * size:
-                    time.sleep(0.002)
-            return running.communicate(timeout=SECONDS)[0]
-        except (BrokenPipeError, subprocess.TimeoutExpired):
-            running.kill()
-            return None
-
-
 def compare_pieces(program):
     for name, size in (("example", 1), ("interleaved", 7), ("longest-book", 1000), ("too-long", 1000)):
         book = (CRATE / "data" / "books" / f"{name}.book").read_bytes()
-        output = in_pieces(program.path, book, size)
+        output = in_pieces([program.path], book, size)
         program.note(output == output_of(book), f"stored book {name} in pieces of {size}", book)
 
 
@@ -184,10 +159,6 @@ def compare_far_too_long(program):
     """More than the program will read: the rest is left in the pipe."""
     book = record_bytes(inquire(16)) * MOST_BOOK * 2
     program.prints("a book of four times the limit", book, b"book 0\n")
-
-
-def small_stack():
-    resource.setrlimit(resource.RLIMIT_STACK, (STACK, STACK))
 
 
 def compare_stack(program):
@@ -200,24 +171,14 @@ def compare_stack(program):
             preexec_fn=small_stack)
 
 
-def counted(program, name, compare):
-    """A part that ran nothing is a failure, so that none is lost unseen."""
-    before = program.tally.passed + program.tally.failed
-    compare()
-    ran = program.tally.passed + program.tally.failed - before
-    print(f"{name}: {ran} compared")
-    if ran == 0:
-        program.tally.note(False, f"{name}: none")
-
-
 def main(path, seed):
     program = Program(path)
-    counted(program, "NIST's cases as books", lambda: compare_nist(program))
-    counted(program, "stored books", lambda: compare_stored(program))
-    counted(program, "random books", lambda: compare_random(program, seed))
-    counted(program, "books in pieces", lambda: compare_pieces(program))
-    counted(program, "a book far too long", lambda: compare_far_too_long(program))
-    counted(program, "a stack of 1 MiB", lambda: compare_stack(program))
+    counted(program.tally, "NIST's cases as books", lambda: compare_nist(program))
+    counted(program.tally, "stored books", lambda: compare_stored(program))
+    counted(program.tally, "random books", lambda: compare_random(program, seed))
+    counted(program.tally, "books in pieces", lambda: compare_pieces(program))
+    counted(program.tally, "a book far too long", lambda: compare_far_too_long(program))
+    counted(program.tally, "a stack of 1 MiB", lambda: compare_stack(program))
     print(program.tally.line())
     return program.tally.status()
 

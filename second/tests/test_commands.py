@@ -41,3 +41,12 @@ class Commands(unittest.TestCase):
             run("text.py", "to-text", given=bytes.fromhex("06 10 07")),
             (1, b"inquire handle=16\n", b"byte 2: an unknown kind\n"))
         self.assertEqual(run("text.py")[0], 2)
+
+    def test_respond(self):
+        text = b"[SHA-1]\nCOUNT = 05\nReturnedBits =\nx"
+        self.assertEqual(run("respond.py", "1", given=text[:-2]), (0, b"5 passed over\n", b""))
+        status, lines, told = run("respond.py", "2", given=text)
+        self.assertEqual((status, lines), (0, b"5 passed over\nline 4\n"))
+        self.assertRegex(told, rb"\Arespond: standard input, line 4.*\n\Z")
+        self.assertRegex(run("respond.py", "1", "none/such")[2], rb"\Arespond: none/such can't be read.*\n\Z")
+        self.assertEqual(run("respond.py", given=text)[:2], (0, b""))
