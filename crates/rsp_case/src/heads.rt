@@ -1,4 +1,4 @@
-// What the headings have said.
+// What the headings have said. Names by their numbers, as in point.rt.
 ghost use mathlib.Core.Path.{_≡_};
 ghost use mathlib.Core.Bool.{cond};
 ghost use Prim.Native.Nat.{_<_};

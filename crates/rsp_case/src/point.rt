@@ -1,4 +1,6 @@
-// How far the reading of a case has come, and what a line does to it.
+// How far the reading of a case has come, and what a line does to it. Names by their numbers, as the definitions have them
+// (rsp_line/specs/Names.antt): 1 EntropyInput, 2 Nonce, 3 PersonalizationString, 4 AdditionalInput, 5 ReturnedBits,
+// 6 EntropyInputReseed, 7 AdditionalInputReseed, 8 EntropyInputPR, 9 COUNT.
 use crate::heads;
 use crate::heads::Heads;
 ghost use mathlib.Core.Path.{_≡_};
