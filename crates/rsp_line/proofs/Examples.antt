@@ -7,7 +7,8 @@ use lib.ListN.{replicate}
 use Rattle.text.specs.Ascii.{ascii}
 use Rattle.rsp_line.specs.Hex.{digitOf, allDigits, isHex, bytesOf}
 use Rattle.rsp_line.specs.Decimal.{numberFrom, numberOf}
-use Rattle.rsp_line.specs.Names.{same, nonce, entropyInput, entropyInputPR, nameOf, lengthOf}
+use Rattle.same.specs.Same.{same}
+use Rattle.rsp_line.specs.Names.{nonce, entropyInput, entropyInputPR, nameOf, lengthOf}
 use Rattle.rsp_line.specs.Lines.{nothing, hash, resists, bits, counts, gives, unread}
 use Rattle.rsp_line.specs.Lines.{fieldSays, truthOf, lengthSays, nameEnd, headingIn, heading, field, says}
 

@@ -13,12 +13,13 @@ use lib.ListN.{length, take, drop, getD, take-append-drop, drop-of-length-le, Li
 use Rattle.text.specs.Ascii.{ascii}
 use Rattle.rsp_line.specs.Hex.{isHex, bytesOf}
 use Rattle.rsp_line.specs.Decimal.{numberOf}
-use Rattle.rsp_line.specs.Names.{same, nameOf, lengthOf}
+use Rattle.same.specs.Same.{same}
+use Rattle.rsp_line.specs.Names.{nameOf, lengthOf}
 use Rattle.rsp_line.specs.Lines.{Says, nothing, hash, resists, bits, counts, gives, unread, onNumber, onNamed, nameEnd}
 use Rattle.rsp_line.specs.Lines.{fieldSays, truthOf, lengthSays, headingSays, headingIn, heading, field, says}
 use Rattle.rsp_line.specs.Written.{nameText, Line, Gives, Counts}
 use Rattle.rsp_line.proofs.Lists.{split, and-left, and-right}
-use Rattle.rsp_line.proofs.Names.{same-is}
+use Rattle.same.proofs.Sameness.{same-is}
 
 -- the number of a name is that of its text
 abbrev Spelt : (s : List ℕ) (k : ℕ) → Type 0

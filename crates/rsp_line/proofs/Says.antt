@@ -10,7 +10,8 @@ use lib.ListN.{length, take, drop, getD}
 use Rattle.text.specs.Ascii.{ascii}
 use Rattle.rsp_line.specs.Hex.{isHex, bytesOf}
 use Rattle.rsp_line.specs.Decimal.{numberOf}
-use Rattle.rsp_line.specs.Names.{same, nameOf, lengthOf}
+use Rattle.same.specs.Same.{same}
+use Rattle.rsp_line.specs.Names.{nameOf, lengthOf}
 use Rattle.rsp_line.specs.Lines.{Says, nothing, hash, resists, bits, counts, gives, unread, onNamed}
 use Rattle.rsp_line.specs.Lines.{fieldSays, truthOf, lengthSays, headingSays, nameEnd, headingIn, heading, field, says}
 use Rattle.rsp_line.specs.Values.{Reads, Anywhere, Named}

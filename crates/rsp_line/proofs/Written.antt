@@ -14,7 +14,8 @@ use Rattle.text.specs.Ascii.{ascii}
 use Rattle.text.specs.Digits.{decimal, hex}
 use Rattle.text.proofs.Digits.{length-decimal}
 use Rattle.rsp_line.specs.Hex.{between}
-use Rattle.rsp_line.specs.Names.{same, nameOf}
+use Rattle.same.specs.Same.{same}
+use Rattle.rsp_line.specs.Names.{nameOf}
 use Rattle.rsp_line.specs.Lines.{Says, counts, gives, onNumber, onNamed, nameEnd}
 use Rattle.rsp_line.specs.Lines.{fieldSays, field, says}
 use Rattle.rsp_line.specs.Written.{nameText, fieldLine, countLine, Line, Gives, Counts}

@@ -8,7 +8,8 @@ use lib.ListN.{length, take, drop, getD}
 use Rattle.text.specs.Ascii.{ascii}
 use Rattle.rsp_line.specs.Hex.{isHex, bytesOf}
 use Rattle.rsp_line.specs.Decimal.{numberOf}
-use Rattle.rsp_line.specs.Names.{same, count, nameOf, lengthOf}
+use Rattle.same.specs.Same.{same}
+use Rattle.rsp_line.specs.Names.{count, nameOf, lengthOf}
 
 pub data Says : Type 0 where
   nothing : Says

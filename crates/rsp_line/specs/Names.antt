@@ -1,15 +1,9 @@
 -- The names of fields and of headings, each with the space that stands behind it, and the numbers that stand for them here.
 use Prim.Native.Nat.{ℕ}
-use mathlib.Core.Bool.{Bool, true, false, _&&_, cond}
-use mathlib.Core.List.{List, [], _∷_}
-use lib.Dec.{eqb}
+use mathlib.Core.Bool.{cond}
+use mathlib.Core.List.{List}
+use Rattle.same.specs.Same.{same}
 use Rattle.text.specs.Ascii.{ascii}
-
-unfoldable pub same : (word s : List ℕ) → Bool
-same [] [] = true
-same [] (c ∷ s) = false
-same (x ∷ word) [] = false
-same (x ∷ word) (c ∷ s) = eqb x c && same word s
 
 abbrev pub entropyInput : ℕ
 entropyInput = 1

@@ -3,6 +3,7 @@ use crate::decimal;
 use crate::decimal::Number;
 use crate::hex;
 use crate::name;
+use same::same;
 ghost use mathlib.Core.Path.{_≡_};
 ghost use Prim.Native.Nat.{_+_, _≤_};
 ghost use lib.ListN.{length, drop};
@@ -61,10 +62,10 @@ fn value_at(s: &[u8], n: usize) -> ValueAt
 fn truth_of(value: &[u8]) -> Said
     ensures { λ r. ⌜ Anywhere r (truthOf (now (value .entry))) ⌝ }
 {
-    if name::same(b"True", value) {
+    if same(b"True", value) {
         return Said::Resists(true);
     }
-    if name::same(b"False", value) {
+    if same(b"False", value) {
         return Said::Resists(false);
     }
     Said::Unread
@@ -85,7 +86,7 @@ fn length_of(name: u64, value: &[u8]) -> Said
 fn heading_value(name: &[u8], value: &[u8]) -> Said
     ensures { λ r. ⌜ Anywhere r (headingSays (now (name .entry)) (now (value .entry))) ⌝ }
 {
-    if name::same(b"PredictionResistance ", name) {
+    if same(b"PredictionResistance ", name) {
         return truth_of(value);
     }
     length_of(name::length_of(name), value)
@@ -97,7 +98,7 @@ fn heading_in(s: &[u8]) -> Said
 {
     let n = name_end(s);
     if s.len() <= n {
-        return Said::Hash(name::same(b"SHA-256", s));
+        return Said::Hash(same(b"SHA-256", s));
     }
     let ValueAt::Found(at) = value_at(s, n) else {
         return Said::Unread;

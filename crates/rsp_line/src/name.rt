@@ -1,20 +1,9 @@
 // The names of fields and of headings, and the numbers that stand for them.
+use same::same;
 ghost use mathlib.Core.Path.{_≡_};
 ghost use mathlib.Core.Bool.{cond};
-ghost use Rattle.rsp_line.specs.Names.{same, nameOf, lengthOf};
-
-pub fn same(word: &[u8], s: &[u8]) -> bool
-    ensures { λ r. ⌜ r ≡ same (now (word .entry)) (now (s .entry)) ⌝ }
-{
-    if word.len() != s.len() {
-        return false;
-    }
-    let mut alike = true;
-    for i in 0..s.len() {
-        alike = alike & (word[i] == s[i]);
-    }
-    alike
-}
+ghost use Rattle.rsp_line.specs.Names.{nameOf, lengthOf};
+ghost use Rattle.same.specs.Same.{same};
 
 fn if_same(word: &[u8], s: &[u8], number: u64, other: u64) -> u64
     ensures { λ r. ⌜ r ≡ cond (same (now (word .entry)) (now (s .entry))) number other ⌝ }

@@ -12,7 +12,7 @@ use Rattle.slots.specs.Sizes.{tableSize}
 use Rattle.table.specs.Calls.{opens}
 use Rattle.table.specs.OnBytes.{Done, leaving, inBytes}
 use Rattle.table.specs.declared.answers.Told.{Told}
-use Rattle.rsp_line.specs.Names.{same}
+use Rattle.same.specs.Same.{same}
 use Rattle.rsp_case.specs.Cases.{Field, stepsOf, first, caseOf}
 use Rattle.rsp_case.specs.Store.{stored}
 use Rattle.rsp_run.specs.Run.{outputOf, gave, passes}

@@ -11,7 +11,7 @@ use Rattle.slots.specs.Sizes.{tableSize}
 use Rattle.table.specs.Calls as calls
 use Rattle.table.specs.Calls.{Call, opens}
 use Rattle.table.specs.OnBytes.{Done, inBytes}
-use Rattle.rsp_line.specs.Names.{same}
+use Rattle.same.specs.Same.{same}
 use Rattle.rsp_case.specs.Cases.{Step, draws, freshDraws, reseeds, Case}
 
 -- a step's call, and what the output holds behind it

@@ -1,5 +1,5 @@
 // Runs a case of a response file: whether it passes (specs/Run.antt).
-use rsp_line::name;
+use same::same;
 use slots::sizes;
 use table::answers::Told;
 use table::calls;
@@ -63,7 +63,7 @@ fn gives(
     ensures { λ r. ⌜ GivesAt (now (fields .entry)) from handle (now (table .entry)) (now (out .entry)) (now (returned .entry)) r ⌝ }
 {
     let served = steps::run_steps(table, fields, from, handle, out);
-    served & name::same(out, returned)
+    served & same(out, returned)
 }
 
 // Whether a case passes, whose fields stand in bytes, from a fresh table.

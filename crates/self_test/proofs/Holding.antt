@@ -11,7 +11,7 @@ use lib.Seq.{drop-cons}
 use Rattle.slots.specs.Sizes.{tableSize}
 use Rattle.table.specs.Calls.{Call, lent}
 use Rattle.table.specs.OnBytes.{Done, inBytes}
-use Rattle.self_test.specs.Same.{same}
+use Rattle.same.specs.Same.{same}
 use Rattle.self_test.specs.Cases.{Case, _then_gives_, _then_refuses_, after, holds, firstFrom}
 
 abbrev fresh : List ℕ

@@ -1,4 +1,3 @@
 -- What the proofs share.
-pub mod Sameness
 pub mod Holding
 pub mod Meaning

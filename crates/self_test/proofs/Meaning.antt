@@ -10,10 +10,10 @@ use Rattle.slots.specs.Sizes.{tableSize}
 use Rattle.slots.proofs.Flags.{both, and-both}
 use Rattle.table.specs.Calls.{lent}
 use Rattle.table.specs.OnBytes.{inBytes}
-use Rattle.self_test.specs.Same.{same}
+use Rattle.same.specs.Same.{same}
 use Rattle.self_test.specs.Cases.{Case, _then_gives_, _then_refuses_, after, holds, Holds, AllHold, firstFrom}
 use Rattle.self_test.specs.SelfTest.{cases, firstDiffering}
-use Rattle.self_test.proofs.Sameness.{same-is, same-equal}
+use Rattle.same.proofs.Sameness.{same-is, same-equal}
 
 holds-so : (c : Case) → holds c ≡ true → Holds c
 unfolding holds

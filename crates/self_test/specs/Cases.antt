@@ -8,7 +8,7 @@ use lib.ListN.{replicate}
 use Rattle.slots.specs.Sizes.{tableSize}
 use Rattle.table.specs.Calls.{Call, opens, reseeds, draws, freshDraws, lent}
 use Rattle.table.specs.OnBytes.{inBytes}
-use Rattle.self_test.specs.Same.{same}
+use Rattle.same.specs.Same.{same}
 
 -- calls on the fresh table, one after the other, and then a last one, whose outcome is known
 infix 5 _then_gives_

@@ -1,5 +1,4 @@
 -- SP 800-90A §11.3: the cases that the library tests itself with.
-pub mod Same
 pub mod Cases
 pub mod Published
 pub mod SelfTest

@@ -1,5 +1,5 @@
 // A case of each kind, run from the fresh table. A draw is one of 128 bytes, and the first generator has handle 16.
-use crate::same::same;
+use same::same;
 use slots::sizes;
 use table::calls;
 ghost use mathlib.Core.Path.{_≡_};

@@ -1,7 +1,6 @@
 // SP 800-90A §11.3, known-answer tests: the calls that ship, on NIST's published cases and on one that is refused.
 pub mod cases;
 pub mod published;
-pub mod same;
 
 ghost use mathlib.Core.Path.{_≡_};
 ghost use Prim.Native.Nat.{_<_};

@@ -5,10 +5,10 @@ use mathlib.Core.Bool.{_&&_}
 use native.Mathlib.Omega.{arith}
 use borrow.Author.Needs.{needs}
 use lib.ListN.{length, drop}
-use Rattle.self_test.specs.Same.{same}
-use Rattle.self_test.proofs.Sameness.{other-lengths, same-next, same-end}
-use Rattle.self_test.proofs.same.same.Statement.{statement}
-use Rattle.self_test.proofs.same.same.Tie as tie
+use Rattle.same.specs.Same.{same}
+use Rattle.same.proofs.Sameness.{other-lengths, same-next, same-end}
+use Rattle.same.proofs.same.Statement.{statement}
+use Rattle.same.proofs.same.Tie as tie
 
 abbrev Inv-loop : tie.InvT-loop
 Inv-loop a b equal₀ i₀ i-end equal i =

@@ -1,0 +1,2 @@
+-- Laws of strings compared.
+pub mod Sameness

@@ -1,0 +1,2 @@
+-- Strings compared.
+pub mod Same
