@@ -1,15 +1,14 @@
 -- The hash, one step at a time: one more turn, one more word of the schedule, one more block. Assumes nothing.
 use mathlib.Core.Path.{_≡_, refl, sym, ap₂, _∙_}
 use mathlib.Core.List.{List, [], _∷_, _++_}
-use Prim.Native.Nat.{ℕ, zero, suc, _+_, _-_, _*_, _≤_, _<_}
+use Prim.Native.Nat.{ℕ, zero, suc, _+_, _*_, _≤_, _<_}
 use native.Mathlib.Numerals.{add-one}
 use native.Mathlib.Omega.{arith}
 use native.Mathlib.Nat.{mul-suc, mul-le-mul-left, le-trans}
-use borrow.Author.Tests.{lt-ltb, le-ltb}
+use borrow.Author.Tests.{lt-ltb}
 use lib.ListN.{length, getD, take, drop, set, length-drop}
-use lib.Seq.{take-suc-set, getD-take, drop-append-le, take-append-le}
-use Rattle.standard.specs.Words.{σ}
-use Rattle.standard.specs.Hash.{Hash, Eight, wordBits, blockBytes, plus, wordAt, blockAt, schedule, scheduleWord, turn, turns}
+use lib.Seq.{take-suc-set, drop-append-le, take-append-le}
+use Rattle.standard.specs.Hash.{Hash, Eight, blockBytes, wordAt, blockAt, schedule, scheduleWord, turn, turns}
 use Rattle.standard.specs.Hash.{compressed, absorbed}
 
 module _ (H : Hash) where
@@ -27,38 +26,15 @@ module _ (H : Hash) where
   unfolding absorbed
   absorbed-more m i s = rw add-one
 
-  -- an array whose first t words are the schedule's, and the next word stored
-  module _ (block w : List ℕ) (t v : ℕ) (room : t < length w) (so-far : take t w ≡ schedule H block t) where
-    stored : v ≡ scheduleWord H block (schedule H block t) t → take (t + 1) (set w t v) ≡ schedule H block (t + 1)
-    stored e = rw (add-one) (take-suc-set w t v room) ∙ ap₂ (λ x y. x ++ (y ∷ [])) so-far e ∙ sym (schedule-more block t)
-
-    -- §6.2.2, 1, for t below 16
-    pub block-word-stored : t < 16 → v ≡ wordAt H block t → take (t + 1) (set w t v) ≡ schedule H block (t + 1)
-    unfolding scheduleWord
-    block-word-stored few e = stored (e ∙ sym (rw (lt-ltb t 16 few)))
-
-    earlier : (k : ℕ) → 0 < k → k ≤ t → getD (schedule H block t) (t - k) 0 ≡ getD w (t - k) 0
-    earlier k some near = rw (← so-far) (getD-take t w (t - k) 0 (omega arith))
-
-    -- §6.2.2, 1, for t from 16 on
-    pub later-word-stored :
-        16 ≤ t →
-        v ≡ plus H
-        (plus H (plus H (σ (wordBits H) (H .σ₁) (getD w (t - 2) 0)) (getD w (t - 7) 0)) (σ (wordBits H) (H .σ₀) (getD w (t - 15) 0)))
-        (getD w (t - 16) 0) →
-        take (t + 1) (set w t v) ≡ schedule H block (t + 1)
-    unfolding scheduleWord
-    later-word-stored many e =
-        stored
-        (e ∙
-        sym
-        (rw (
-          le-ltb t 16 many,
-          earlier 2 (omega arith) (omega arith),
-          earlier 7 (omega arith) (omega arith),
-          earlier 15 (omega arith) (omega arith),
-          earlier 16 (omega arith) (omega arith),
-        )))
+  -- an array whose first t words are the schedule's, and the next one of the block's own words stored
+  pub block-word-stored :
+      (block w : List ℕ) (t v : ℕ) → t < length w → take t w ≡ schedule H block t → t < 16 → v ≡ wordAt H block t
+      → take (t + 1) (set w t v) ≡ schedule H block (t + 1)
+  unfolding scheduleWord
+  block-word-stored block w t v room so-far few e =
+      rw (add-one) (take-suc-set w t v room) ∙
+      ap₂ (λ x y. x ++ (y ∷ [])) so-far (e ∙ sym (rw (lt-ltb t 16 few))) ∙
+      sym (schedule-more block t)
 
   -- the first blocks of a string do not see what follows it
   pub blockAt-append : (m x : List ℕ) (i : ℕ) → blockBytes H * (i + 1) ≤ length m → blockAt H (m ++ x) i ≡ blockAt H m i

@@ -4,6 +4,7 @@ pub mod Strings
 pub mod Words
 pub mod Hash
 pub mod Lengths
+pub mod Ring
 pub mod AllBytes
 pub mod Counts
 pub mod Bound

@@ -13,3 +13,4 @@ pub mod Functions
 pub mod Lengths
 pub mod Blocks
 pub mod Vectors
+pub mod Ring
