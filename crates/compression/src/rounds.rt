@@ -2,10 +2,11 @@
 use crate::schedule;
 use crate::words;
 ghost use mathlib.Core.Path.{_≡_};
-ghost use Prim.Native.Nat.{_+_, _≤_, _<_};
+ghost use Prim.Native.Nat.{ℕ, _+_, _≤_, _<_};
+ghost use mathlib.Core.List.{List};
 ghost use lib.ListN.{length};
-ghost use Rattle.standard.specs.Hash.{Eight as Values};
-ghost use Rattle.standard.specs.Hash.{turn, turns, added, compressed, T₁, T₂};
+ghost use Rattle.standard.specs.Hash.{schedule, turn, added, compressed, T₁, T₂};
+ghost use Rattle.standard.specs.Ring.{Reached, Turned};
 ghost use Rattle.standard.specs.Sha256.{sha256, K256, initial256};
 ghost use Rattle.compression.specs.Values.{eightOf};
 
@@ -138,60 +139,85 @@ fn turned(s: Eight, k: u32, w: u32) -> Eight
     }
 }
 
-// Turn t.
-fn turned_at(s: Eight, k: [u32; 64], w: [u32; 64], t: usize) -> Eight
+// Turn t, with word t from its place.
+fn turned_at(s: Eight, k: [u32; 64], w: [u32; 16], t: usize) -> Eight
     requires { ⌜ t < 64 ⌝ }
-    ensures { λ r. ⌜ ((from : Values) → k ≡ K256 → eightOf s ≡ turns sha256 w t from → eightOf r ≡ turns sha256 w (t + 1) from) ⌝ }
+    ensures { λ r. ⌜ Turned sha256 1 t k w (eightOf s) (eightOf r) ⌝ }
 {
-    turned(s, k[t], w[t])
+    turned(s, k[t], w[t % 16])
 }
 
 // Two turns more: the compiler still puts the body of this one in the place of each call, but not that of four.
-fn two_turns(s: Eight, k: [u32; 64], w: [u32; 64], t: usize) -> Eight
+fn two_turns(s: Eight, k: [u32; 64], w: [u32; 16], t: usize) -> Eight
     requires { ⌜ t + 2 ≤ 64 ⌝ }
-    ensures { λ r. ⌜ ((from : Values) → k ≡ K256 → eightOf s ≡ turns sha256 w t from → eightOf r ≡ turns sha256 w (t + 2) from) ⌝ }
+    ensures { λ r. ⌜ Turned sha256 2 t k w (eightOf s) (eightOf r) ⌝ }
 {
     let next = turned_at(s, k, w, t);
     turned_at(next, k, w, t + 1)
 }
 
-// Step 3: all 64 turns. They are written out, as the words of the schedule are: then no working variable is moved, and a constant is
-// a part of its instruction.
-fn all_turns(from: Eight, k: [u32; 64], w: [u32; 64]) -> Eight
-    ensures { λ r. ⌜ (k ≡ K256 → eightOf r ≡ turns sha256 w 64 (eightOf from)) ⌝ }
+// Step 3, and the later words of step 1: two turns, then the two words that take the places of theirs, which is the quickest order. All is
+// written out: then every place is known when the crate is compiled and no array is left at run time, no working variable is moved, and a
+// constant is a part of its instruction.
+fn all_turns(from: Eight, k: [u32; 64], w16: [u32; 16]) -> Eight
+    ensures { λ r. ⌜ ((block : List ℕ) → k ≡ K256 → w16 ≡ schedule sha256 block 16 → Reached sha256 block (eightOf from) 64 (eightOf r)) ⌝ }
 {
-    let s2 = two_turns(from, k, w, 0);
-    let s4 = two_turns(s2, k, w, 2);
-    let s6 = two_turns(s4, k, w, 4);
-    let s8 = two_turns(s6, k, w, 6);
-    let s10 = two_turns(s8, k, w, 8);
-    let s12 = two_turns(s10, k, w, 10);
-    let s14 = two_turns(s12, k, w, 12);
-    let s16 = two_turns(s14, k, w, 14);
-    let s18 = two_turns(s16, k, w, 16);
-    let s20 = two_turns(s18, k, w, 18);
-    let s22 = two_turns(s20, k, w, 20);
-    let s24 = two_turns(s22, k, w, 22);
-    let s26 = two_turns(s24, k, w, 24);
-    let s28 = two_turns(s26, k, w, 26);
-    let s30 = two_turns(s28, k, w, 28);
-    let s32 = two_turns(s30, k, w, 30);
-    let s34 = two_turns(s32, k, w, 32);
-    let s36 = two_turns(s34, k, w, 34);
-    let s38 = two_turns(s36, k, w, 36);
-    let s40 = two_turns(s38, k, w, 38);
-    let s42 = two_turns(s40, k, w, 40);
-    let s44 = two_turns(s42, k, w, 42);
-    let s46 = two_turns(s44, k, w, 44);
-    let s48 = two_turns(s46, k, w, 46);
-    let s50 = two_turns(s48, k, w, 48);
-    let s52 = two_turns(s50, k, w, 50);
-    let s54 = two_turns(s52, k, w, 52);
-    let s56 = two_turns(s54, k, w, 54);
-    let s58 = two_turns(s56, k, w, 56);
-    let s60 = two_turns(s58, k, w, 58);
-    let s62 = two_turns(s60, k, w, 60);
-    two_turns(s62, k, w, 62)
+    let s2 = two_turns(from, k, w16, 0);
+    let w18 = schedule::with_two(w16, 16);
+    let s4 = two_turns(s2, k, w18, 2);
+    let w20 = schedule::with_two(w18, 18);
+    let s6 = two_turns(s4, k, w20, 4);
+    let w22 = schedule::with_two(w20, 20);
+    let s8 = two_turns(s6, k, w22, 6);
+    let w24 = schedule::with_two(w22, 22);
+    let s10 = two_turns(s8, k, w24, 8);
+    let w26 = schedule::with_two(w24, 24);
+    let s12 = two_turns(s10, k, w26, 10);
+    let w28 = schedule::with_two(w26, 26);
+    let s14 = two_turns(s12, k, w28, 12);
+    let w30 = schedule::with_two(w28, 28);
+    let s16 = two_turns(s14, k, w30, 14);
+    let w32 = schedule::with_two(w30, 30);
+    let s18 = two_turns(s16, k, w32, 16);
+    let w34 = schedule::with_two(w32, 32);
+    let s20 = two_turns(s18, k, w34, 18);
+    let w36 = schedule::with_two(w34, 34);
+    let s22 = two_turns(s20, k, w36, 20);
+    let w38 = schedule::with_two(w36, 36);
+    let s24 = two_turns(s22, k, w38, 22);
+    let w40 = schedule::with_two(w38, 38);
+    let s26 = two_turns(s24, k, w40, 24);
+    let w42 = schedule::with_two(w40, 40);
+    let s28 = two_turns(s26, k, w42, 26);
+    let w44 = schedule::with_two(w42, 42);
+    let s30 = two_turns(s28, k, w44, 28);
+    let w46 = schedule::with_two(w44, 44);
+    let s32 = two_turns(s30, k, w46, 30);
+    let w48 = schedule::with_two(w46, 46);
+    let s34 = two_turns(s32, k, w48, 32);
+    let w50 = schedule::with_two(w48, 48);
+    let s36 = two_turns(s34, k, w50, 34);
+    let w52 = schedule::with_two(w50, 50);
+    let s38 = two_turns(s36, k, w52, 36);
+    let w54 = schedule::with_two(w52, 52);
+    let s40 = two_turns(s38, k, w54, 38);
+    let w56 = schedule::with_two(w54, 54);
+    let s42 = two_turns(s40, k, w56, 40);
+    let w58 = schedule::with_two(w56, 56);
+    let s44 = two_turns(s42, k, w58, 42);
+    let w60 = schedule::with_two(w58, 58);
+    let s46 = two_turns(s44, k, w60, 44);
+    let w62 = schedule::with_two(w60, 60);
+    let s48 = two_turns(s46, k, w62, 46);
+    let w64 = schedule::with_two(w62, 62);
+    let s50 = two_turns(s48, k, w64, 48);
+    let s52 = two_turns(s50, k, w64, 50);
+    let s54 = two_turns(s52, k, w64, 52);
+    let s56 = two_turns(s54, k, w64, 54);
+    let s58 = two_turns(s56, k, w64, 56);
+    let s60 = two_turns(s58, k, w64, 58);
+    let s62 = two_turns(s60, k, w64, 60);
+    two_turns(s62, k, w64, 62)
 }
 
 // Step 4.
@@ -215,6 +241,6 @@ pub fn compress(s: Eight, block: &[u8]) -> Eight
     requires { ⌜ length (now block) ≡ 64 ⌝ }
     ensures { λ r. ⌜ eightOf r ≡ compressed sha256 (eightOf s) (now (block .entry)) ⌝ }
 {
-    let w = schedule::schedule_of(block);
+    let w = schedule::block_words(block);
     sums(s, all_turns(s, K, w))
 }

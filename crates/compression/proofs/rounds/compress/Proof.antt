@@ -8,7 +8,7 @@ use Rattle.compression.proofs.rounds.compress.Tie as tie
 
 returns : tie.Need-returns
 unfolding compressed K256
-returns c = c .sums .ensures ∙ rw (c .before .all-turns .ensures refl, c .before .before .schedule-of .ensures)
+returns c = c .sums .ensures ∙ rw (c .before .all-turns .ensures _ refl (c .before .before .block-words .ensures))
 
 pub compress-spec : {M : Type 1} → statement M
 compress-spec = tie.close (tie.spec (λ c κs. search needs) (λ c κs. search needs) (λ c κs. search needs) returns)

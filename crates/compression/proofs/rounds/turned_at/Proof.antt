@@ -1,19 +1,11 @@
--- One turn more. Assumes nothing.
-use mathlib.Core.Path.{sym, ap₂, _∙_}
-use lib.ListN.{getD}
-use Rattle.standard.specs.Hash.{turn}
-use Rattle.standard.specs.Sha256.{sha256}
-use Rattle.standard.proofs.Hash.{turns-more}
+-- Turn t, with the constant and the word from their places. Assumes nothing.
+use Rattle.standard.proofs.Ring.{turned-once}
 use borrow.Author.Needs.{needs}
 use Rattle.compression.proofs.rounds.turned_at.Statement.{statement}
 use Rattle.compression.proofs.rounds.turned_at.Tie as tie
 
 returns : tie.Need-returns
-returns c = λ from is-K so-far.
-    let a = c .before .args in
-    c .turned .ensures ∙
-    ap₂ (λ k s. turn sha256 s (getD k (a .t) 0) (getD (a .t3) (a .t) 0)) is-K so-far ∙
-    sym (turns-more sha256 _ (a .t) _)
+returns c = turned-once (c .turned .ensures)
 
 pub turned-at-spec : {M : Type 1} → statement M
 turned-at-spec =

@@ -1,16 +1,11 @@
 -- One turn, and one more. Assumes nothing.
-use Prim.Native.Nat.{_+_}
-use mathlib.Core.Path.{_≡_}
-use native.Mathlib.Omega.{arith}
+use Rattle.standard.proofs.Ring.{turned-then}
 use borrow.Author.Needs.{needs}
 use Rattle.compression.proofs.rounds.two_turns.Statement.{statement}
 use Rattle.compression.proofs.rounds.two_turns.Tie as tie
 
 returns : tie.Need-returns
-returns c = λ from is-K so-far.
-    let t = c .before .before .args .t in
-    let at₂ : t + 1 + 1 ≡ t + 2 = omega arith in
-    rw at₂ at (c .turned-at2 .ensures from is-K (c .before .turned-at .ensures from is-K so-far))
+returns c = turned-then (c .before .before .args .t) (c .before .turned-at .ensures) (c .turned-at2 .ensures)
 
 pub two-turns-spec : {M : Type 1} → statement M
 two-turns-spec = tie.close (tie.spec (λ c κs. search needs) (λ c. search needs) (λ c κs. search needs) returns)

@@ -1,9 +1,10 @@
 -- At each t the first t words are those of the block. Assumes nothing.
 use Prim.Native.Nat.{_≤_, _-_}
-use mathlib.Core.Path.{_≡_}
+use mathlib.Core.Path.{_≡_, sym, _∙_}
 use native.Mathlib.Omega.{arith}
 use borrow.Author.Needs.{needs}
 use lib.ListN.{length, take}
+use lib.Seq.{take-all}
 use Rattle.standard.specs.Hash.{schedule}
 use Rattle.standard.specs.Sha256.{sha256}
 use Rattle.standard.proofs.Hash.{block-word-stored}
@@ -11,7 +12,7 @@ use Rattle.compression.proofs.schedule.block_words.Statement.{statement
 use Rattle.compression.proofs.schedule.block_words.Tie as tie
 
 abbrev Inv-loop : tie.InvT-loop
-Inv-loop block w₀ t₀ w t = (t ≤ 16) × (length w ≡ 64) × (take t w ≡ schedule sha256 block t)
+Inv-loop block w₀ t₀ w t = (t ≤ 16) × (length w ≡ 16) × (take t w ≡ schedule sha256 block t)
 
 abbrev μ-loop : tie.MeasureT-loop
 μ-loop block w₀ t₀ w t = 16 - t
@@ -31,8 +32,9 @@ loop-again c =
 
 returns : tie.Need-returns Inv-loop μ-loop
 returns c =
-    let all : c .before .loop .t ≡ 16 = omega arith in
-    rw all at (c .before .loop .inv .2)
+    let l = c .before .loop in
+    let all : l .t ≡ 16 = omega arith in
+    sym (take-all 16 (l .w) (omega arith)) ∙ (rw all at (l .inv .2))
 
 pub block-words-spec : {M : Type 1} → statement M
 block-words-spec =
