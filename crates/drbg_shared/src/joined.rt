@@ -23,8 +23,10 @@ pub fn hash_joined<'a>(
     ensures { λ r. ⌜ digestOf r ≡ hash sha256 (now (first .entry) ++ (now (second .entry) ++ (now (third .entry) ++
         (now (fourth .entry) ++ (now (fifth .entry) ++ now (sixth .entry)))))) ⌝ }
 {
-    let led = Running::new().update(first).update(second).update(third);
-    reader::read_through(led, fourth, fifth, sixth)
-        .finish()
-        .digest()
+    let mut h = Running::new();
+    h = h.update(first);
+    h = h.update(second);
+    h = h.update(third);
+    h = reader::read_through(h, fourth, fifth, sixth);
+    h.finish().digest()
 }
