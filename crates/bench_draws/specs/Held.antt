@@ -7,8 +7,7 @@ use lib.Dec.{eqb, leb}
 use lib.ListN.{length}
 use Rattle.standard.specs.Functions.{opening, draw}
 use Rattle.standard.specs.Sha256.{sha256}
-use Rattle.drbg_shared.specs.Generator.{stateOf, served, filled}
-use Rattle.drbg_shared.specs.declared.generator.Served.{Served}
+use Rattle.drbg_shared.specs.Generator.{Served, stateOf, served, filled}
 use Rattle.drbg.specs.Mechanism.{mechanismOf}
 
 pub record Held : Type 0 where

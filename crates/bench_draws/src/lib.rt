@@ -1,6 +1,5 @@
 // Openings and draws on numbers and lent slices, for the bench: a generator's two fields go in, and its successor's come back.
 use drbg::generator;
-use drbg_shared::generator::Generator;
 ghost use mathlib.Core.Path.{_≡_};
 ghost use mathlib.Core.List.{[]};
 ghost use lib.ListN.{length};
@@ -52,13 +51,12 @@ pub extern "C" fn purangsa_bench_open<'a>(
         return 0;
     }
     let none = &entropy[..0];
-    let served = generator::opened(mechanism, entropy, nonce, none);
-    let g = served.generator;
-    let a = g.first;
-    let b = g.second;
+    let mut a = [0u8; 55];
+    let mut b = [0u8; 55];
+    let blocks = generator::opened(mechanism, &mut a, &mut b, entropy, nonce, none);
     put(first, a);
     put(second, b);
-    served.blocks
+    blocks
 }
 
 #[no_mangle]
@@ -82,18 +80,12 @@ pub extern "C" fn purangsa_bench_draw(
     ) {
         return 0;
     }
-    let g = Generator {
-        first: field_of(first),
-        second: field_of(second),
-        counter,
-    };
+    let mut a = field_of(first);
+    let mut b = field_of(second);
     let one = [0u8; 1];
     let none = &one[..0];
-    let served = generator::drawn(mechanism, g, none, out);
-    let next = served.generator;
-    let a = next.first;
-    let b = next.second;
+    let blocks = generator::drawn(mechanism, &mut a, &mut b, counter, none, out);
     put(first, a);
     put(second, b);
-    served.blocks
+    blocks
 }

@@ -14,8 +14,7 @@ use Rattle.standard.specs.Lengths.{Sized, stateBytes}
 use Rattle.standard.proofs.Lengths.{sized-opening, sized-reseeding, sized-draw, sized-freshDraw, counter-opening, counter-reseeding}
 use Rattle.standard.proofs.Lengths.{counter-draw, counter-freshDraw}
 use Rattle.drbg.specs.Mechanism.{mechanismOf}
-use Rattle.drbg_shared.specs.Generator.{stateOf, standing, served, filled}
-use Rattle.drbg_shared.specs.declared.generator.Generator.{Generator}
+use Rattle.drbg_shared.specs.Generator.{Generator, stateOf, standing, served, filled}
 use Rattle.slots.specs.Layout.{freeSlot, withSlot, lastSerial, withLastSerial, freshTable, Table}
 use Rattle.slots.specs.Sound.{sound}
 use Rattle.slots.specs.Handle.{handleOf, slotOf, names, lookUp, named, lowestFree}

@@ -8,21 +8,23 @@ use Rattle.standard.specs.Functions.{Mechanism, reseeding, draw, freshDraw}
 use Rattle.standard.specs.Sha256.{sha256}
 use Rattle.standard.proofs.Lengths.{sized-reseeding}
 use Rattle.drbg_shared.proofs.Standing.{stateOf-standing}
-use Rattle.drbg_shared.specs.Generator.{stateOf, served, filled}
-use Rattle.drbg_shared.specs.declared.generator.Served.{Served}
+use Rattle.drbg_shared.specs.Generator.{Served, stateOf, served, filled, holding, ledOn}
 
-pub fresh-drawn : (mechanism : Mechanism) (s : State) (n : ℕ) (entropy additional : List ℕ) (seeded last : Served) (out : List ℕ)
-    → seeded ≡ served (reseeding sha256 mechanism s entropy additional)
-    → record { served = last; output = out } ≡ filled (draw sha256 mechanism (stateOf mechanism (seeded .generator)) n [])
-    → record { served = record { generator = last .generator; blocks = seeded .blocks + last .blocks }; output = out }
+-- the two fields after the reseed, and after the draw
+pub fresh-drawn : (mechanism : Mechanism) (s : State) (n : ℕ) (entropy additional : List ℕ)
+    (first second : List ℕ) (seeded : ℕ) (first′ second′ : List ℕ) (last : ℕ) (out : List ℕ)
+    → ledOn first second 1 seeded ≡ served (reseeding sha256 mechanism s entropy additional)
+    → record { served = ledOn first′ second′ 2 last; output = out }
+    ≡ filled (draw sha256 mechanism (stateOf mechanism (holding first second 1)) n [])
+    → record { served = ledOn first′ second′ 2 (seeded + last); output = out }
     ≡ filled (freshDraw sha256 mechanism s n entropy additional)
 unfolding freshDraw served filled
-fresh-drawn mechanism s n entropy additional seeded last out seeded-is drawn-is =
+fresh-drawn mechanism s n entropy additional first second seeded first′ second′ last out seeded-is drawn-is =
     let again = reseeding sha256 mechanism s entropy additional in
-    let state-is : stateOf mechanism (seeded .generator) ≡ again .value =
+    let state-is : stateOf mechanism (holding first second 1) ≡ again .value =
     ap (λ (r : Served). stateOf mechanism (r .generator)) seeded-is ∙
     stateOf-standing mechanism (again .value) (sized-reseeding sha256 (lit< tt) mechanism s entropy additional) in
-    let drawn : record { served = last; output = out } ≡ filled (draw sha256 mechanism (again .value) n []) =
+    let drawn : record { served = ledOn first′ second′ 2 last; output = out } ≡ filled (draw sha256 mechanism (again .value) n []) =
     drawn-is ∙ ap (λ (t : State). filled (draw sha256 mechanism t n [])) state-is in
     let cost = ap (λ (r : Served). r .blocks) seeded-is in
     λ i. record {

@@ -8,18 +8,10 @@ use Rattle.standard.specs.HashDf.{hashDf}
 use Rattle.standard.specs.State.{State}
 use Rattle.standard.specs.HashDrbg.{stepped}
 use Rattle.standard.specs.Sha256.{sha256}
-use Rattle.drbg_hash.specs.declared.hash_df.Derived.{Derived}
-use Rattle.drbg_hash.specs.declared.hash_drbg.Seed.{Seed}
-use Rattle.drbg_hash.specs.declared.hash_drbg.Value.{Value}
 
-abbrev pub derivedOf : Derived → Metered (List ℕ)
-derivedOf d = record { value = d .bytes; blocks = d .blocks }
-
-abbrev pub seedOf : Seed → Metered State
-seedOf s = record { value = record { first = s .v; second = s .c; counter = 1 }; blocks = s .blocks }
-
-abbrev pub valueOf : Value → Metered (List ℕ)
-valueOf x = record { value = x .v; blocks = x .blocks }
+-- V and C with the blocks that were consumed for them
+abbrev pub seedFor : (blocks : ℕ) (v c : List ℕ) → Metered State
+seedFor blocks v c = record { value = record { first = v; second = c; counter = 1 }; blocks = blocks }
 
 -- SP 800-90A §10.1.1.2 and 10.1.1.3, step 4: C from V
 unfoldable pub constantOf : (v : List ℕ) → Metered (List ℕ)

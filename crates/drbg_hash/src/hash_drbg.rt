@@ -1,6 +1,5 @@
 // SP 800-90A §10.1.1: Hash_DRBG over SHA-256.
 use crate::hash_df;
-use crate::hash_df::Derived;
 use compression::digest;
 use compression::rounds;
 use drbg_shared::joined;
@@ -15,54 +14,38 @@ ghost use Rattle.standard.specs.HashDrbg.{seeded, refreshed, hashgen, hashgenTu
 ghost use Rattle.standard.specs.Sha256.{sha256};
 ghost use Rattle.drbg_shared.specs.Costs.{costing};
 ghost use Rattle.sums.specs.Limbs.{stringOf, valueIn, Marked};
-ghost use Rattle.drbg_hash.specs.Seeds.{derivedOf, seedOf, valueOf, constantOf, stateWith};
+ghost use Rattle.drbg_hash.specs.Seeds.{seedFor, constantOf, stateWith};
 
-// V and C, with the blocks that were consumed for them.
-pub struct Seed {
-    pub v: [u8; 55],
-    pub c: [u8; 55],
-    pub blocks: u64,
-}
-
-// V, with the blocks that were consumed for it.
-pub struct Value {
-    pub v: [u8; 55],
-    pub blocks: u64,
-}
-
-// §10.1.1.2 and 10.1.1.3, step 4: C.
-fn constant_of(v: [u8; 55]) -> Derived
-    ensures is { λ r. ⌜ derivedOf r ≡ constantOf v ⌝ }
-    ensures count { λ r. ⌜ r .blocks ≡ 4 ⌝ }
+// §10.1.1.2 and 10.1.1.3, step 4: C from V, in its place.
+fn put_constant(c: &mut [u8; 55], v: &[u8; 55]) -> u64
+    ensures is { λ r. ⌜ costing r (now (c .exit)) ≡ constantOf (now (v .entry)) ⌝ }
+    ensures count { λ r. ⌜ r ≡ 4 ⌝ }
 {
     let zero = [0u8];
     let mark = &zero[..];
     let none = &mark[..0];
-    hash_df::derive(mark, &v, none, none, none)
+    hash_df::derive(c, mark, v, none, none, none)
 }
 
-// §10.1.1.2 and 10.1.1.3, steps 2 to 6: the seed material is a mark and the old V, or nothing of both, then the caller's strings.
+// §10.1.1.2 and 10.1.1.3, steps 2 to 6: V and C in their places. The seed material is a mark and the old V, or nothing of both, then the
+// caller's strings.
 pub fn seed_from<'a>(
+    v: &mut [u8; 55],
+    c: &mut [u8; 55],
     mark: &[u8],
     old: &[u8],
     first: &'a [u8],
     second: &'a [u8],
     third: &'a [u8],
-) -> Seed
+) -> u64
     requires { ⌜ (length (now mark) ≤ 64) × (length (now old) ≤ 64) ⌝ }
     requires { ⌜ (length (now first) ≤ 1024) × (length (now second) ≤ 1024) × (length (now third) ≤ 1024) ⌝ }
-    ensures { λ r. ⌜ seedOf r ≡ seeded sha256
+    ensures { λ r. ⌜ seedFor r (now (v .exit)) (now (c .exit)) ≡ seeded sha256
         (now (mark .entry) ++ (now (old .entry) ++ (now (first .entry) ++ (now (second .entry) ++ now (third .entry))))) ⌝ }
 {
-    let value = hash_df::derive(mark, old, first, second, third);
-    let v = value.bytes;
-    let constant = constant_of(v);
-    let c = constant.bytes;
-    Seed {
-        v,
-        c,
-        blocks: value.blocks + constant.blocks,
-    }
+    let value = hash_df::derive(v, mark, old, first, second, third);
+    let constant = put_constant(c, v);
+    value + constant
 }
 
 // V and a bit 1 as limbs are V's only block but for its end: zeros and 440, the length in bits.
@@ -104,23 +87,21 @@ pub fn hashgen_filled(next: &mut [u64; 7], out: &mut [u8]) -> u64
     (at / 32) as u64
 }
 
-// §10.1.1.4, step 2
-pub fn refresh(v: [u8; 55], additional: &[u8]) -> Value
+// §10.1.1.4, step 2: V in its place.
+pub fn refresh(v: &mut [u8; 55], additional: &[u8]) -> u64
     requires { ⌜ length (now additional) ≤ 1024 ⌝ }
-    ensures { λ r. ⌜ valueOf r ≡ refreshed sha256 (now (additional .entry)) v ⌝ }
+    ensures { λ r. ⌜ costing r (now (v .exit)) ≡ refreshed sha256 (now (additional .entry)) (now (v .entry)) ⌝ }
 {
     if additional.len() == 0 {
-        return Value { v, blocks: 0 };
+        return 0;
     }
     let mark = [2u8];
     let none = &additional[..0];
-    let w = joined::hash_joined(&mark, &v, none, additional, none, none);
+    let w = joined::hash_joined(&mark, v, none, additional, none, none);
     let bytes = w.bytes;
-    let next = sums::total(v, bytes, [0u8; 55], 0);
-    Value {
-        v: next,
-        blocks: w.blocks,
-    }
+    let grown = sums::total(*v, bytes, [0u8; 55], 0);
+    *v = grown;
+    w.blocks
 }
 
 // A byte before V.
@@ -146,12 +127,12 @@ fn hash_of_led(lead: [u8; 56]) -> [u8; 32]
     digest::bytes_of(rounds::compress(once, &last))
 }
 
-// §10.1.1.4, steps 4 and 5: V after a draw.
-pub fn step(limbs: [u64; 7], c: [u8; 55], counter: u64) -> Value
-    ensures { λ r. ⌜ valueOf r ≡ stateWith (valueIn limbs) c counter ⌝ }
+// §10.1.1.4, steps 4 and 5: V after a draw, in its place.
+pub fn step(v: &mut [u8; 55], c: &[u8; 55], counter: u64) -> u64
+    ensures { λ r. ⌜ costing r (now (v .exit)) ≡ stateWith (now (v .entry)) (now (c .entry)) counter ⌝ }
 {
-    let v = sums::number_of(limbs);
-    let h = hash_of_led(led(3, v));
-    let next = sums::total(v, h, c, counter);
-    Value { v: next, blocks: 2 }
+    let h = hash_of_led(led(3, *v));
+    let next = sums::total(*v, h, *c, counter);
+    *v = next;
+    2
 }

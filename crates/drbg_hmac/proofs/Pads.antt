@@ -9,9 +9,11 @@ use lib.ListN.{length, getD, take, replicate}
 use lib.Seq.{take-all}
 use borrow.Author.Tests.{le-leb}
 use Rattle.standard.specs.Metered.{return}
-use Rattle.standard.specs.Hmac.{xored, filled, key}
+use Rattle.standard.specs.Hash.{hash}
+use Rattle.standard.specs.Hmac.{xored, filled, key, hmac}
 use Rattle.standard.specs.Sha256.{sha256}
 use Rattle.compression.proofs.Stores.{take-more}
+use Rattle.drbg_shared.specs.Costs.{costing}
 use Rattle.drbg_hmac.specs.Keys.{ready}
 
 pub xored-more : (pad : ℕ) (s : List ℕ) (i : ℕ) → i < length s
@@ -30,3 +32,9 @@ xored-filled pad K size =
 pub key-ready : (K : List ℕ) → length K ≡ 32 → key sha256 K ≡ return (ready K)
 unfolding key
 key-ready K size = rw (le-leb (length K) 64 (omega arith))
+
+-- steps 5 to 9: the hash behind the inner pad, then the hash of that behind the outer one
+pub hmac-is : (K text inner outer : List ℕ) (n : ℕ) → costing n inner ≡ hash sha256 (xored 0x36 (filled sha256 K) ++ text)
+    → costing 2 outer ≡ hash sha256 (xored 0x5c (filled sha256 K) ++ inner) → costing (n + 2) outer ≡ hmac sha256 (ready K) text
+unfolding hmac
+hmac-is K text inner outer n inside outside = sym (rw (← inside, ← outside))

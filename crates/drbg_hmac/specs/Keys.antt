@@ -1,14 +1,11 @@
 -- HMAC_DRBG's values as the code holds them, with their cost in blocks.
 use Prim.Native.Nat.{ℕ}
 use mathlib.Core.List.{List, _∷_, _++_}
-use lib.ListN.{take, replicate}
+use lib.ListN.{take}
 use Rattle.standard.specs.Metered.{Metered, return, _>>=_}
 use Rattle.standard.specs.Hmac.{Key, filled, hmac, rekey}
 use Rattle.standard.specs.HmacDrbg.{Keyed}
 use Rattle.standard.specs.Sha256.{sha256}
-use Rattle.drbg_shared.specs.declared.generator.Served.{Served}
-use Rattle.drbg_hmac.specs.declared.hmac_drbg.Updated.{Updated}
-use Rattle.drbg_hmac.specs.declared.hmac_drbg.Output.{Output}
 
 -- FIPS 198-1, table 1, steps 1 and 3: a key that is no longer than a block
 abbrev pub ready : List ℕ → Key
@@ -25,21 +22,14 @@ half separator provided u = do
   v ← hmac sha256 K (u .v)
   return (record { K = K; v = v })
 
-abbrev pub updatedOf : Updated → Metered Keyed
-updatedOf u = record { value = keyed (u .key) (u .v); blocks = u .blocks }
+-- Key and V with the blocks that were consumed for them
+abbrev pub keyedFor : (blocks : ℕ) (K v : List ℕ) → Metered Keyed
+keyedFor blocks K v = record { value = keyed K v; blocks = blocks }
 
--- a filled output and the V behind it, with their cost
-abbrev pub outputOf : Output → List ℕ → Metered (List ℕ × List ℕ)
-outputOf o bytes = record { value = (bytes, o .v); blocks = o .blocks }
+-- a filled output and the V behind it, with the blocks that were consumed for them
+abbrev pub outputFor : (blocks : ℕ) (bytes v : List ℕ) → Metered (List ℕ × List ℕ)
+outputFor blocks bytes v = record { value = (bytes, v); blocks = blocks }
 
 -- the first n bytes of what the turns made, and V
 abbrev pub drawnOut : Metered (List ℕ × List ℕ) → ℕ → Metered (List ℕ × List ℕ)
 drawnOut turns n = record { value = (take n (turns .value .0), turns .value .1); blocks = turns .blocks }
-
--- Key and V as they stand in a slot
-unfoldable pub keptHmac : Updated → ℕ → Served
-keptHmac u counter =
-    record {
-      generator = record { first = u .key ++ replicate 23 0; second = u .v ++ replicate 23 0; counter = counter };
-      blocks = u .blocks;
-    }

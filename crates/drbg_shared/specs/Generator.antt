@@ -1,13 +1,33 @@
 -- A generator as it stands in a slot: two fields of 55 bytes and the reseed counter, beside the standard's working state.
 -- HMAC_DRBG uses the first 32 bytes of each field (K, V) and the other 23 are zero; Hash_DRBG uses all (V, C).
 use Prim.Native.Nat.{ℕ, _-_}
+use mathlib.Core.Path.{_≡_}
 use mathlib.Core.List.{List, _++_}
 use lib.ListN.{length, take, replicate}
 use Rattle.standard.specs.Metered.{Metered}
 use Rattle.standard.specs.State.{State, Drawn}
 use Rattle.standard.specs.Functions.{Mechanism, HMAC-DRBG, Hash-DRBG}
-use Rattle.drbg_shared.specs.declared.generator.Generator.{Generator}
-use Rattle.drbg_shared.specs.declared.generator.Served.{Served}
+
+pub record Generator : Type 0 where
+  pub first : List ℕ
+  pub second : List ℕ
+  pub counter : ℕ
+
+-- a generator's successor, and the blocks that were consumed for it
+pub record Served : Type 0 where
+  pub generator : Generator
+  pub blocks : ℕ
+
+-- both as the code has them: the two fields lent in place, the numbers by value
+abbrev pub holding : (first second : List ℕ) (counter : ℕ) → Generator
+holding first second counter = record { first = first; second = second; counter = counter }
+
+abbrev pub ledOn : (first second : List ℕ) (counter blocks : ℕ) → Served
+ledOn first second counter blocks = record { generator = holding first second counter; blocks = blocks }
+
+-- fields of a slot
+abbrev pub Fields : (first second : List ℕ) → Type 0
+Fields first second = (length first ≡ 55) × (length second ≡ 55)
 
 -- the working state that a generator holds
 unfoldable pub stateOf : Mechanism → Generator → State

@@ -1,4 +1,3 @@
-// What both mechanisms share: strings read through as one, the lent output, and a generator as it stands in a slot.
-pub mod generator;
+// What both mechanisms share: strings read through as one, and the lent output.
 pub mod joined;
 pub mod output;

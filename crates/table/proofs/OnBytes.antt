@@ -2,7 +2,7 @@
 use Rattle.slots.specs.Sizes.{tableSize}
 use mathlib.Core.Path.{_≡_, refl, sym, ap, ap₂, _∙_}
 use mathlib.Core.Bool.{Bool, true, false, not, _&&_, cond}
-use mathlib.Core.List.{List}
+use mathlib.Core.List.{List, []}
 use Prim.Native.Nat.{ℕ}
 use native.Mathlib.Omega.{arith}
 use borrow.Author.Tests.{eqb-true, eq-eqb, not-true, not-false}
@@ -11,14 +11,16 @@ use lib.ListN.{length, getD}
 use mir.Val.{Fits}
 use mir.Syntax.{w8}
 use Rattle.standard.specs.Strings.{Bytes}
+use Rattle.drbg_shared.specs.Generator.{Filled}
+use Rattle.slots.specs.Layout.{Table}
 use Rattle.slots.specs.Sound.{sound}
 use Rattle.slots.specs.Bytes.{tableOf, soundBytes}
 use Rattle.slots.proofs.Flags.{both}
 use Rattle.slots.proofs.TableBytes.{bytes-tableOf}
 use Rattle.reasons.specs.Reasons.{firstOf}
-use Rattle.table.specs.Answers.{Reply}
+use Rattle.table.specs.Answers.{Reply, stepped, steppedDraw}
 use Rattle.table.specs.Calls.{Call, lent, reasonsOf, service, reply}
-use Rattle.table.specs.OnBytes.{toldRefused, done, inBytes}
+use Rattle.table.specs.OnBytes.{Done, leaving, toldRefused, done, inBytes}
 use Rattle.table.specs.declared.answers.Told.{Told}
 use Rattle.table.proofs.Exits.{refused-call, served-call, first-unsound}
 
@@ -38,6 +40,12 @@ bytes-known known = record { at = λ i. known i .fits }
 
 one-some : _≡_ {A = ℕ} 1 0 → ⊥
 one-some e = omega arith
+
+-- a generator's step in its table, and beside it the output that was drawn
+pub with-output : (t : Table) (i : ℕ) (r : Filled) {told : Told} {table : List ℕ}
+    → leaving told table [] ≡ done (record { answer = stepped t i (r .served); output = [] })
+    → leaving told table (r .output) ≡ done (steppedDraw t i r)
+with-output t i r given = ap (λ (d : Done). leaving (d .told) (d .table) (r .output)) given
 
 module _ (c : Call) (s : List ℕ) where
   pub replied-on : length s ≡ tableSize → {r : Reply} → r ≡ reply (tableOf s) c → done r ≡ inBytes c s

@@ -1,10 +1,10 @@
 -- How a call comes out, by what it found: an unsound table, a handle that names nothing, a reason, or none. Assumes nothing.
 use mathlib.Core.Path.{_≡_, sym, ap, ap₂, subst, _∙_}
 use mathlib.Core.Bool.{Bool, true, false, not}
-use Prim.Native.Nat.{ℕ, _%_, _^_, _<_}
+use Prim.Native.Nat.{ℕ, _+_, _%_, _^_, _<_}
 use native.Mathlib.Omega.{arith}
 use borrow.Author.Tests.{not-true, not-false}
-use Rattle.drbg_shared.specs.declared.generator.Generator.{Generator}
+use Rattle.drbg_shared.specs.Generator.{Fields}
 use Rattle.slots.specs.Layout.{lastSerial, slotAt, Table}
 use Rattle.slots.specs.Sound.{sound}
 use Rattle.slots.specs.Handle.{slotOf, lookUp, named}
@@ -14,7 +14,6 @@ use Rattle.slots.specs.declared.handle.Found.the-variants.{At, Nothing}
 use Rattle.slots.proofs.Soundness.{Used}
 use Rattle.slots.proofs.Handles.{found-at, named-is, sound-named}
 use Rattle.reasons.specs.Reasons.{Reasons, firstOf}
-use Rattle.table.specs.Answers.{generatorOf}
 
 module _ (t : Table) where
   pub unsound : {is : Bool} → is ≡ sound t → not is ≡ true → sound t ≡ false
@@ -61,9 +60,9 @@ module _ {t : Table} {handle i : ℕ} (is : Named t handle i) where
       ap (λ u. firstOf (reasons true true u)) (here at) ∙
       sym (ap₂ (λ a b. firstOf (reasons a b (slotOf t handle))) (is .sound) (is .found))
 
-  -- a sound slot's counter is small
-  pub counter-fits : {s : Slot} → s ≡ slotAt t i → {g : Generator} → g ≡ generatorOf s → g .counter < 2 ^ 63
-  counter-fits at {g} made =
-      let u = used-here at in
-      let same = ap (λ x. x .counter) made in
-      omega (arith, same)
+  -- a sound slot's fields are whole, and its counter is small
+  pub fields-whole : {s : Slot} → s ≡ slotAt t i → Fields (s .first) (s .second)
+  fields-whole at = let u = used-here at in (u .first .bytes, u .second .bytes)
+
+  pub counter-fits : {s : Slot} → s ≡ slotAt t i → s .counter + 1 < 2 ^ 63
+  counter-fits at = let u = used-here at in omega arith

@@ -16,8 +16,7 @@ use Rattle.standard.specs.Sha256.{sha256}
 use Rattle.standard.specs.Functions.{Mechanism, HMAC-DRBG, Hash-DRBG}
 use Rattle.standard.specs.Lengths.{Sized, stateBytes}
 use Rattle.drbg.specs.Mechanism.{mechanismOf}
-use Rattle.drbg_shared.specs.Generator.{stateOf, field, standing}
-use Rattle.drbg_shared.specs.declared.generator.Generator.{Generator}
+use Rattle.drbg_shared.specs.Generator.{Generator, stateOf, field, standing}
 use Rattle.slots.specs.Sound.{allZero}
 use Rattle.slots.specs.declared.slot.Slot.{Slot}
 use Rattle.slots.proofs.Flags.{or-first, or-second}

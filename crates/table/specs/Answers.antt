@@ -2,9 +2,7 @@
 use Prim.Native.Nat.{ℕ}
 use mathlib.Core.Bool.{Bool, cond}
 use mathlib.Core.List.{List}
-use Rattle.drbg_shared.specs.Generator.{Filled}
-use Rattle.drbg_shared.specs.declared.generator.Generator.{Generator}
-use Rattle.drbg_shared.specs.declared.generator.Served.{Served}
+use Rattle.drbg_shared.specs.Generator.{Generator, Served, Filled}
 use Rattle.slots.specs.Layout.{slotAt, withSlot, withLastSerial, Table}
 use Rattle.slots.specs.Handle.{handleOf}
 use Rattle.slots.specs.declared.slot.Slot.{Slot}

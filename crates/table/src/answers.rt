@@ -1,6 +1,4 @@
 // What a call on bytes hands back beside the bytes.
-use drbg_shared::generator::Generator;
-use drbg_shared::generator::Served;
 use slots::layout;
 use slots::slot::Slot;
 ghost use Rattle.slots.specs.Sizes.{tableSize};
@@ -8,8 +6,9 @@ ghost use mathlib.Core.Path.{_≡_};
 ghost use mathlib.Core.List.{[]};
 ghost use Prim.Native.Nat.{_<_};
 ghost use lib.ListN.{length};
+ghost use Rattle.drbg_shared.specs.Generator.{holding, ledOn};
 ghost use Rattle.slots.specs.Layout.{slotAt};
-ghost use Rattle.table.specs.Answers.{generatorOf, withGenerator, stepped, newSlot};
+ghost use Rattle.table.specs.Answers.{withGenerator, stepped, newSlot};
 ghost use Rattle.slots.specs.Bytes.{tableOf};
 ghost use Rattle.table.specs.OnBytes.{leaving, toldRefused, toldServed, done};
 
@@ -39,28 +38,14 @@ pub fn accepted(blocks: u64, value: u64) -> Told
     }
 }
 
-pub fn generator_of(s: Slot) -> Generator
-    ensures { λ r. ⌜ r ≡ generatorOf s ⌝ }
+pub fn with_generator(s: Slot, first: [u8; 55], second: [u8; 55], counter: u64) -> Slot
+    ensures { λ r. ⌜ r ≡ withGenerator s (holding first second counter) ⌝ }
 {
-    let first = s.first;
-    let second = s.second;
-    Generator {
-        first,
-        second,
-        counter: s.counter,
-    }
-}
-
-pub fn with_generator(s: Slot, g: Generator) -> Slot
-    ensures { λ r. ⌜ r ≡ withGenerator s g ⌝ }
-{
-    let first = g.first;
-    let second = g.second;
     Slot {
         mechanism: s.mechanism,
         strength: s.strength,
         interval: s.interval,
-        counter: g.counter,
+        counter,
         fresh: s.fresh,
         serial: s.serial,
         first,
@@ -68,15 +53,22 @@ pub fn with_generator(s: Slot, g: Generator) -> Slot
     }
 }
 
-// The generator in slot i, which is s, has made its step.
-pub fn stepped(table: &mut [u8], i: usize, s: Slot, served: Served) -> Told
+// The generator in slot i, which is s, has made its step: its fields, its counter, and the blocks that were consumed.
+pub fn stepped(
+    table: &mut [u8],
+    i: usize,
+    s: Slot,
+    first: [u8; 55],
+    second: [u8; 55],
+    counter: u64,
+    blocks: u64,
+) -> Told
     requires { ⌜ (length (now table) ≡ tableSize) × (i < 16) × (s ≡ slotAt (tableOf (now table)) i) ⌝ }
     ensures { λ r. ⌜ leaving r (now (table .exit)) []
-        ≡ done (record { answer = stepped (tableOf (now (table .entry))) i served; output = [] }) ⌝ }
+        ≡ done (record { answer = stepped (tableOf (now (table .entry))) i (ledOn first second counter blocks); output = [] }) ⌝ }
 {
-    let g = served.generator;
-    layout::put_slot(table, i, with_generator(s, g));
-    accepted(served.blocks, 0)
+    layout::put_slot(table, i, with_generator(s, first, second, counter));
+    accepted(blocks, 0)
 }
 
 pub fn new_slot(
@@ -85,17 +77,16 @@ pub fn new_slot(
     interval: u64,
     fresh: bool,
     serial: u32,
-    new: Generator,
+    first: [u8; 55],
+    second: [u8; 55],
 ) -> Slot
-    ensures { λ r. ⌜ r ≡ newSlot mechanism strength interval fresh serial new ⌝ }
+    ensures { λ r. ⌜ r ≡ newSlot mechanism strength interval fresh serial (holding first second 1) ⌝ }
 {
-    let first = new.first;
-    let second = new.second;
     Slot {
         mechanism,
         strength,
         interval,
-        counter: new.counter,
+        counter: 1,
         fresh: fresh as u8,
         serial,
         first,

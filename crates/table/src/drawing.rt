@@ -1,7 +1,6 @@
 // SP 800-90A §9.3, without prediction resistance: a plain draw never reseeds.
 use crate::answers;
 use crate::answers::Told;
-use crate::answers::generator_of;
 use drbg::generator;
 use slots::handle;
 use slots::handle::Found;
@@ -33,6 +32,16 @@ pub fn draw(table: &mut [u8], handle: u64, strength: u64, additional: &[u8], out
     if n != 0 {
         return answers::refused(n);
     }
-    let served = generator::drawn(s.mechanism, generator_of(s), additional, out);
-    answers::stepped(table, i, s, served)
+    let mut first = s.first;
+    let mut second = s.second;
+    let counted = s.counter + 1;
+    let blocks = generator::drawn(
+        s.mechanism,
+        &mut first,
+        &mut second,
+        s.counter,
+        additional,
+        out,
+    );
+    answers::stepped(table, i, s, first, second, counted, blocks)
 }

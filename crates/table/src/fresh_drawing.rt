@@ -1,7 +1,6 @@
 // SP 800-90A §9.3, with prediction resistance: a reseed, then a draw with no additional input. Reseed due is no reason here.
 use crate::answers;
 use crate::answers::Told;
-use crate::answers::generator_of;
 use drbg::generator;
 use slots::handle;
 use slots::handle::Found;
@@ -40,6 +39,15 @@ pub fn fresh_draw<'a>(
     if n != 0 {
         return answers::refused(n);
     }
-    let served = generator::fresh_drawn(s.mechanism, generator_of(s), entropy, additional, out);
-    answers::stepped(table, i, s, served)
+    let mut first = s.first;
+    let mut second = s.second;
+    let blocks = generator::fresh_drawn(
+        s.mechanism,
+        &mut first,
+        &mut second,
+        entropy,
+        additional,
+        out,
+    );
+    answers::stepped(table, i, s, first, second, 2, blocks)
 }

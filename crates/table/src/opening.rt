@@ -46,9 +46,25 @@ pub fn open<'a>(
     }
     let kind = mechanism as u8;
     let serial = last + 1;
-    let served = generator::opened(kind, entropy, nonce, personalization);
-    let g = served.generator;
-    let s = new_slot(kind, reasons::rounded(strength), interval, fresh, serial, g);
+    let mut first = [0u8; 55];
+    let mut second = [0u8; 55];
+    let blocks = generator::opened(
+        kind,
+        &mut first,
+        &mut second,
+        entropy,
+        nonce,
+        personalization,
+    );
+    let s = new_slot(
+        kind,
+        reasons::rounded(strength),
+        interval,
+        fresh,
+        serial,
+        first,
+        second,
+    );
     layout::put_new_slot(table, i, serial, s);
-    answers::accepted(served.blocks, handle_of(serial, i))
+    answers::accepted(blocks, handle_of(serial, i))
 }

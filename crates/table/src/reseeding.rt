@@ -1,7 +1,6 @@
 // SP 800-90A §9.2.
 use crate::answers;
 use crate::answers::Told;
-use crate::answers::generator_of;
 use drbg::generator;
 use slots::handle;
 use slots::handle::Found;
@@ -27,6 +26,8 @@ pub fn reseed<'a>(table: &mut [u8], handle: u64, entropy: &'a [u8], additional: 
     if n != 0 {
         return answers::refused(n);
     }
-    let served = generator::reseeded(s.mechanism, generator_of(s), entropy, additional);
-    answers::stepped(table, i, s, served)
+    let mut first = s.first;
+    let mut second = s.second;
+    let blocks = generator::reseeded(s.mechanism, &mut first, &mut second, entropy, additional);
+    answers::stepped(table, i, s, first, second, 1, blocks)
 }

@@ -1,14 +1,13 @@
 -- Out of the limits nothing is done; within them the successor's two fields are put in place of the caller's. Assumes nothing.
-use Prim.Native.Nat.{_≤_}
-use mathlib.Core.Path.{_≡_, sym, ap₂, _∙_}
+use Prim.Native.Nat.{_+_, _≤_}
+use mathlib.Core.Path.{_≡_, sym, ap, ap₂, _∙_}
 use mathlib.Core.Bool.{true}
 use mathlib.Core.List.{[]}
-use native.Mathlib.Omega.{arith}
 use lib.ListN.{length}
 use borrow.Author.Tests.{not-true, not-false}
 use Rattle.standard.specs.Functions.{draw}
 use Rattle.standard.specs.Sha256.{sha256}
-use Rattle.drbg_shared.specs.Generator.{stateOf, filled}
+use Rattle.drbg_shared.specs.Generator.{stateOf, filled, holding, ledOn}
 use Rattle.drbg.specs.Mechanism.{mechanismOf}
 use Rattle.bench_draws.specs.Held.{heldIn, inLimits}
 use Rattle.bench_draws.proofs.Limits.{limits-are, drawn-not, drawn-so}
@@ -52,36 +51,40 @@ field-of-requires-2 c κs = sizes (c .before .before .before) .1
 
 drawn-requires : tie.Need-drawn-requires
 drawn-requires c κs =
-    let known = sizes (tested (c .before .before)) in
-    omega (arith, known .2, known .3)
+    let second = c .before .before .before .before in
+    let known = sizes (tested second) in (
+      (ap length (second .before .before .field-of .ensures) ∙ known .0, ap length (second .field-of2 .ensures) ∙ known .1),
+      (known .2, search needs),
+    )
 
 -- the fields, from the draw on
 abbrev fields : tie.After-drawn → tie.After-field-of2
-fields c = c .before .before .before
+fields c = c .before .before .before .before .before
 
 put-requires : tie.Need-put-requires
-put-requires c κs = sizes (tested (fields (c .before .before .before .before .before .before))) .0
+put-requires c κs = sizes (tested (fields (c .before .before .before))) .0
 
 put-requires-2 : tie.Need-put-requires-2
 put-requires-2 c κs =
     let first = c .before .before .before in
-    sizes (tested (fields (first .before .before .before .before .before .before .before))) .1
+    sizes (tested (fields (first .before .before .before .before))) .1
 
 returns-2 : tie.Need-returns-2
 returns-2 c =
     let second = c .before .before in
     let first = second .before .before .before .before in
-    let done = first .before .before .before .before .before .before .before in
+    let done = first .before .before .before .before in
     let took = fields done in
     let a = start (tested took .before) .args in
     let m = mechanismOf (a .mechanism) in
-    let r = done .drawn .result in
-    let out = done .drawn .last .1 .1 .1 .0 in
-    let held : record { first = first .put .last .0; second = second .put2 .last .0; blocks = r .blocks; output = out } ≡ heldIn r out =
-    λ i. record { first = first .put .ensures i; second = second .put2 .ensures i; blocks = r .blocks; output = out } in
+    let blocks = done .drawn .result in
+    let r = ledOn (done .drawn .last .1 .0) (done .drawn .last .1 .1 .0) (a .counter + 1) blocks in
+    let out = done .drawn .last .1 .1 .1 .1 .1 .0 in
+    let held : record { first = first .put .last .0; second = second .put2 .last .0; blocks = blocks; output = out } ≡ heldIn r out =
+    λ i. record { first = first .put .ensures i; second = second .put2 .ensures i; blocks = blocks; output = out } in
     let drawn =
     done .drawn .ensures .0 ∙
-    ap₂ (λ x y. filled (draw sha256 m (stateOf m (record { first = x; second = y; counter = a .counter })) (length (a .out .now)) []))
+    ap₂ (λ x y. filled (draw sha256 m (stateOf m (holding x y (a .counter))) (length (a .out .now)) []))
     (took .before .before .field-of .ensures) (took .field-of2 .ensures) in
     held ∙
     sym

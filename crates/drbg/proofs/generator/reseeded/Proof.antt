@@ -7,17 +7,17 @@ use Rattle.drbg.proofs.generator.reseeded.Tie as tie
 
 returns : tie.Need-returns
 returns c =
-    let tested = c .before in
+    let tested = c .before .before .before in
     let mechanism = tested .before .before .before .args .mechanism in
     let r = c .hmac-reseeded .ensures in
-    (r .0 ∙ sym (rw (eq-eqb mechanism 1 (tested .if1 .taken))), r .1)
+    (λ counter. r .0 counter ∙ sym (rw (eq-eqb mechanism 1 (tested .if1 .taken))), r .1)
 
 returns-2 : tie.Need-returns-2
 returns-2 c =
-    let tested = c .before in
+    let tested = c .before .before .before in
     let mechanism = tested .before .before .before .args .mechanism in
     let r = c .hash-reseeded .ensures in
-    (r .0 ∙ sym (rw (ne-eqb mechanism 1 (tested .if1 .left))), r .1)
+    (λ counter. r .0 counter ∙ sym (rw (ne-eqb mechanism 1 (tested .if1 .left))), r .1)
 
 pub reseeded-spec : {M : Type 1} → statement M
 reseeded-spec = tie.close (tie.spec (λ c κs. search needs) returns (λ c κs. search needs) returns-2)

@@ -1,46 +1,36 @@
 -- The seed from 01, the V that stands in the slot, and the caller's two strings. It is within the bound since the strings are short.
-use mathlib.Core.Path.{_≡_, sym, ap, _∙_}
+use mathlib.Core.Path.{_≡_, ap, _∙_}
 use mathlib.Core.List.{[], _∷_, _++_, append-nil}
-use native.Mathlib.Omega.{arith}
-use lib.Dec.{lit<}
-use lib.ListN.{length-append}
+use Rattle.standard.specs.State.{State}
 use Rattle.standard.specs.HashDrbg.{reseed, seeded}
+use Rattle.standard.specs.Functions.{Hash-DRBG}
 use Rattle.standard.specs.Sha256.{sha256}
-use Rattle.standard.proofs.Counts.{seeded-blocks}
-use Rattle.drbg_shared.specs.Generator.{served, standing, stateOf}
-use Rattle.drbg_shared.proofs.Standing.{field-55}
-use Rattle.drbg_hash.specs.Seeds.{seedOf}
+use Rattle.standard.specs.Lengths.{Sized}
+use Rattle.standard.proofs.Bound.{bounded}
+use Rattle.drbg_shared.specs.Generator.{stateOf}
+use Rattle.drbg_hash.specs.Seeds.{seedFor}
+use Rattle.drbg_hash.proofs.Standing.{served-seed}
 use borrow.Author.Needs.{needs}
 use Rattle.drbg_hash.proofs.generator.hash_reseeded.Statement.{statement}
 use Rattle.drbg_hash.proofs.generator.hash_reseeded.Tie as tie
 
 returns : tie.Need-returns
-unfolding reseed served standing stateOf
+unfolding reseed stateOf
 returns c =
-    let seeding = c .before .before .before in
-    let old = seeding .before .before .before .before in
-    let start = old .before .before .before .before in
-    let a = start .args in
-    let v = old .whole .result in
-    let seed = seeding .seed-from in
-    let sizes = c .hash-served .ensures .1 in
-    let read : seedOf (seed .result) ≡ seeded sha256 (0x01 ∷ (v ++ (a .entropy .now ++ (a .additional .now ++ [])))) = seed .ensures in
-    let seeds : seedOf (seed .result) ≡ seeded sha256 (0x01 ∷ (v ++ (a .entropy .now ++ a .additional .now))) =
-    read ∙ ap (λ s. seeded sha256 (0x01 ∷ (v ++ (a .entropy .now ++ s)))) (append-nil (a .additional .now)) in (
-      c .hash-served .ensures .0 ∙
-          sym
-          (rw (← old .whole .ensures .0, ← seeds, field-55 (seed .result .v) (sizes .0), field-55 (seed .result .c) (sizes .1))),
-      omega (
-        arith,
-        ap (λ r. r .blocks) (c .hash-served .ensures .0),
-        simp length-append at (ap (λ m. m .blocks) seeds ∙ seeded-blocks sha256 (lit< tt) _),
-        old .whole .ensures .1,
-        start .pre,
-      ),
-    )
+    let start = c .before .before .before .before .before .before .before .before .before in
+    let v = start .args .first .now in
+    let entropy = start .args .entropy .now in
+    let additional = start .args .additional .now in
+    let seed = seedFor (c .seed-from .result) (c .seed-from .last .0) (c .seed-from .last .1 .0) in
+    let read : seed ≡ seeded sha256 (0x01 ∷ (v ++ (entropy ++ (additional ++ [])))) = c .seed-from .ensures in
+    let seeds : seed ≡ seeded sha256 (0x01 ∷ (v ++ (entropy ++ additional))) =
+    read ∙ ap (λ s. seeded sha256 (0x01 ∷ (v ++ (entropy ++ s)))) (append-nil additional) in
+    let stands = served-seed (0x01 ∷ (v ++ (entropy ++ additional))) _ _ _ seeds in
+    let held : State = record { first = v; second = start .args .second .now; counter = 1 } in
+    let sized : Sized 55 held = record { first = start .pre .0 .0; second = start .pre .0 .1 } in
+    let few = bounded Hash-DRBG .reseeding held entropy additional sized (start .pre .1 .0) (start .pre .1 .1) in
+    ((λ counter. stands .0), (rw (← seeds) at few, stands .1))
 
 pub hash-reseeded-spec : {M : Type 1} → statement M
 hash-reseeded-spec =
-    tie.close
-    (tie.spec (λ c κs. search needs) (λ c. search needs) (λ c. search needs) (λ c. search needs) (λ c κs. search needs)
-    (λ c κs. search needs) returns)
+    tie.close (tie.spec (λ c. search needs) (λ c. search needs) (λ c. search needs) (λ c κs. search needs) returns)

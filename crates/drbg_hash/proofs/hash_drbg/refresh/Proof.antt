@@ -24,19 +24,19 @@ returns c = sym (rw (empty (c .before .before .args .additional .now) (c .if1 .t
 returns-2 : tie.Need-returns-2
 unfolding refreshed stepped
 returns-2 c =
-    let joined = c .before .before in
-    let tested = joined .before .before .before .before in
+    let joined = c .before .before .before in
+    let tested = joined .before .before .before .before .before in
     let a = tested .before .before .args in
+    let v = a .v .now in
     let w = joined .hash-joined in
     let some : 0 < length (a .additional .now) = omega (arith, tested .if1 .left) in
-    let read : digestOf (w .result) ≡ hash sha256 (0x02 ∷ (a .t1 ++ (a .additional .now ++ []))) = w .ensures in
-    let hashed = read ∙ ap (λ s. hash sha256 (0x02 ∷ (a .t1 ++ s))) (append-nil (a .additional .now)) in
-    let summed = c .total .ensures ∙ sum-alone (a .t1) (w .result .bytes) in
+    let read : digestOf (w .result) ≡ hash sha256 (0x02 ∷ (v ++ (a .additional .now ++ []))) = w .ensures in
+    let hashed = read ∙ ap (λ s. hash sha256 (0x02 ∷ (v ++ s))) (append-nil (a .additional .now)) in
+    let summed = c .total .ensures ∙ sum-alone v (w .result .bytes) in
     sym
     (rw (ifNull-some (a .additional .now) _ _ some, ← hashed, add-zero) (ap (λ s. costing (w .result .blocks) s) (sym summed)))
 
 pub refresh-spec : {M : Type 1} → statement M
 refresh-spec =
     tie.close
-    (tie.spec returns (λ c. search needs) (λ c. search needs) (λ c. search needs) (λ c κs. search needs) (λ c κs. search needs)
-    returns-2)
+    (tie.spec returns (λ c. search needs) (λ c. search needs) (λ c κs. search needs) (λ c κs. search needs) returns-2)

@@ -16,18 +16,16 @@ use Rattle.drbg_hash.proofs.hash_drbg.step.Tie as tie
 returns : tie.Need-returns
 unfolding stateWith stepped
 returns c =
-    let done = c .before in
-    let number = done .before .before in
-    let a = number .before .args in
-    let v = number .number-of .result in
+    let done = c .before .before .before in
+    let start = done .before .before .before in
+    let v = start .args .v .now in
+    let k = start .args .c .now in
+    let n = start .args .counter in
     let h = done .hash-of-led .result in
     let hashed : costing 2 h ≡ hash sha256 (0x03 ∷ v) = done .hash-of-led .ensures ∙ ap (hash sha256) (done .before .led .ensures) in
-    let summed : c .total .result ≡ bytesOf 55 (numberOf v + (numberOf h + numberOf (a .c) + a .counter)) = c .total .ensures in
-    let grown : costing 2 (c .total .result) ≡ stateWith v (a .c) (a .counter) =
+    let summed : c .total .result ≡ bytesOf 55 (numberOf v + (numberOf h + numberOf k + n)) = c .total .ensures in
     ap (λ s. costing 2 s) summed ∙
-    ap (λ (m : Metered (List ℕ)). costing (m .blocks + 0) (bytesOf 55 (numberOf v + (numberOf (m .value) + numberOf (a .c) + a .counter))))
-    hashed in
-    grown ∙ ap (λ s. stateWith s (a .c) (a .counter)) (number .number-of .ensures)
+    ap (λ (m : Metered (List ℕ)). costing (m .blocks + 0) (bytesOf 55 (numberOf v + (numberOf (m .value) + numberOf k + n)))) hashed
 
 pub step-spec : {M : Type 1} → statement M
-step-spec = tie.close (tie.spec (λ c κs. search needs) (λ c κs. search needs) (λ c κs. search needs) (λ c κs. search needs) returns)
+step-spec = tie.close (tie.spec (λ c κs. search needs) (λ c κs. search needs) (λ c κs. search needs) returns)

@@ -1,15 +1,15 @@
--- The hash of all behind the inner pad, then the hash of that behind the outer one. Assumes of the strings that they are short, so
--- that the count fits.
+-- The hash of all behind the inner pad, then the hash of that behind the outer one (`hmac-is`). Assumes of the strings that they are
+-- short, so that the count fits.
 use Prim.Native.Nat.{ℕ}
-use mathlib.Core.Path.{_≡_, sym, ap, _∙_}
+use mathlib.Core.Path.{_≡_, ap, _∙_}
 use mathlib.Core.List.{List, _∷_, _++_}
 use native.Mathlib.Omega.{arith}
 use lib.ListN.{length-append}
 use Rattle.standard.specs.Hash.{hash}
-use Rattle.standard.specs.Hmac.{xored, filled, hmac}
 use Rattle.standard.specs.Sha256.{sha256}
 use Rattle.standard.proofs.Counts.{sha256-hash}
 use Rattle.sha256.specs.Values.{digestOf}
+use Rattle.drbg_hmac.proofs.Pads.{hmac-is}
 use borrow.Author.Needs.{needs}
 use Rattle.drbg_hmac.proofs.hmac.hmac_of_all.Statement.{statement}
 use Rattle.drbg_hmac.proofs.hmac.hmac_of_all.Tie as tie
@@ -21,7 +21,7 @@ start c = c .before .before .before .before .before .before .before .before
 abbrev text : (c : tie.After-hash-joined) → List ℕ
 text c =
     let a = start c .args in
-    a .t2 ++ (a .separator ∷ (a .first .now ++ (a .second .now ++ a .third .now)))
+    a .v .now ++ (a .separator ∷ (a .first .now ++ (a .second .now ++ a .third .now)))
 
 inner : (c : tie.After-hash-joined)
     → digestOf (c .hash-joined .result) ≡ hash sha256 (c .before .before .before .before .pad-block .result ++ text c)
@@ -34,18 +34,13 @@ add-t20 c =
     record { fits = omega (arith, simp length-append at (ap (λ d. d .blocks) (inner joined) ∙ sha256-hash _), s) }
 
 returns : tie.Need-returns
-unfolding hmac
 returns c =
-    let outer = c .before .before in
-    let joined = outer .before .before in
-    let pad = joined .before .before .before .before in
-    let key = start joined .args .key in
-    let inside : pad .pad-block .result ≡ xored 0x36 (filled sha256 key) = pad .pad-block .ensures in
-    let outside : outer .pad-block2 .result ≡ xored 0x5c (filled sha256 key) = outer .pad-block2 .ensures in
-    sym (rw (← inside, ← inner joined, ← outside, ← c .before .hash-behind .ensures))
+    let joined = c .before .before .before .before in
+    let pad = joined .before .before .before .before .pad-block in
+    let behind = inner joined ∙ ap (λ p. hash sha256 (p ++ text joined)) (pad .ensures) in
+    hmac-is (start joined .args .key .now) (text joined) _ _ _ behind (c .before .hash-behind .ensures)
 
 pub hmac-of-all-spec : {M : Type 1} → statement M
 hmac-of-all-spec =
     tie.close
-    (tie.spec (λ c κs. search needs) (λ c. search needs) (λ c. search needs) (λ c. search needs) (λ c κs. search needs)
-    (λ c κs. search needs) (λ c κs. search needs) add-t20 returns)
+    (tie.spec (λ c κs. search needs) (λ c. search needs) (λ c. search needs) (λ c κs. search needs) (λ c κs. search needs) add-t20 returns)

@@ -10,9 +10,7 @@ use Rattle.drbg_hmac.proofs.hmac.last_block.Tie as tie
 
 returns : tie.Need-returns
 unfolding padding zeros bytesOf
-returns c = c .before .copy .ensures ∙ pasted _ (c .before .before .before .before .args .t1) 0 32 (omega arith)
+returns c = c .before .copy .ensures ∙ pasted _ (c .before .before .before .before .args .v .now) 0 32 (omega arith)
 
 pub last-block-spec : {M : Type 1} → statement M
-last-block-spec =
-    tie.close
-    (tie.spec (λ c. search needs) (λ c. search needs) (λ c. search needs) (λ c. search needs) (λ c κs. search needs) returns)
+last-block-spec = tie.close (tie.spec (λ c. search needs) (λ c. search needs) (λ c. search needs) (λ c κs. search needs) returns)

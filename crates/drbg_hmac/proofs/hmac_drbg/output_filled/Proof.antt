@@ -1,4 +1,4 @@
--- After each turn the output holds what fits of the hashes so far, and w is the last of them. Assumes nothing.
+-- After each turn the output holds what fits of the hashes so far, and v is the last of them. Assumes nothing.
 use Prim.Native.Nat.{ℕ, _+_, _-_, _/_, _%_, _<_, min}
 use mathlib.Core.Path.{_≡_, refl, sym, ap, ap₂, _∙_}
 use mathlib.Core.List.{List, _++_}
@@ -25,12 +25,12 @@ abbrev made : (K v : List ℕ) (at : ℕ) → List ℕ × List ℕ
 made K v at = outputTurns sha256 (ready K) v (at / 32) .value
 
 abbrev Inv-loop : tie.InvT-loop
-Inv-loop key out₀ w₀ at₀ out w at =
-    (at % 32 ≡ 0) × (at < length out₀ + 32) × (length out ≡ length out₀) × (length w ≡ 32) ×
-    (take at out ≡ take (length out₀) (made key w₀ at .0)) × (w ≡ made key w₀ at .1)
+Inv-loop key v₀ out₀ at₀ v out at =
+    (at % 32 ≡ 0) × (at < length out₀ + 32) × (length out ≡ length out₀) × (length v ≡ 32) ×
+    (take at out ≡ take (length out₀) (made key v₀ at .0)) × (v ≡ made key v₀ at .1)
 
 abbrev μ-loop : tie.MeasureT-loop
-μ-loop key out₀ w₀ at₀ out w at = length out₀ + 32 - at
+μ-loop key v₀ out₀ at₀ v out at = length out₀ + 32 - at
 
 loop-holds : tie.Need-loop-holds Inv-loop μ-loop
 unfolding outputTurns
@@ -39,23 +39,23 @@ loop-holds c = (search needs, search needs, search needs, search needs, sym (tak
 loop-again : tie.Need-loop-again Inv-loop μ-loop
 loop-again c =
     let stored = c .before .before in
-    let next = stored .before .before in
-    let l = next .before .before .loop in
-    let a = next .before .before .before .before .args in
-    let w = next .hmac-of .result in
+    let next = stored .before .before .before in
+    let l = next .before .before .before .loop in
+    let a = next .before .before .before .before .before .args in
+    let v = next .hmac-of .last .1 .0 in
     let turn : (l .at + 32) / 32 ≡ l .at / 32 + 1 = omega arith in
-    let temp = made (a .key) (a .v) (l .at) .0 in
-    let hashed : costing 4 w ≡ hmac sha256 (ready (a .key)) (l .w) = next .hmac-of .ensures in
-    let more : made (a .key) (a .v) (l .at + 32) ≡ (temp ++ w, w) =
-    ap (λ i. outputTurns sha256 (ready (a .key)) (a .v) i .value) turn ∙
-    output-more (ready (a .key)) (a .v) (l .at / 32) (l .w) w 4 (l .inv .5) hashed in
-    let size : length temp ≡ l .at = length-outputTurns sha256 (ready (a .key)) (a .v) (l .at / 32) ∙ omega arith in
-    let put : stored .store .last .0 ≡ paste (l .out) (l .at) w (min 32 (length (l .out) - l .at)) = stored .store .ensures in (
+    let temp = made (a .key .now) (a .v .now) (l .at) .0 in
+    let hashed : costing 4 v ≡ hmac sha256 (ready (a .key .now)) (l .v) = next .hmac-of .ensures .0 in
+    let more : made (a .key .now) (a .v .now) (l .at + 32) ≡ (temp ++ v, v) =
+    ap (λ i. outputTurns sha256 (ready (a .key .now)) (a .v .now) i .value) turn ∙
+    output-more (ready (a .key .now)) (a .v .now) (l .at / 32) (l .v) v 4 (l .inv .5) hashed in
+    let size : length temp ≡ l .at = length-outputTurns sha256 (ready (a .key .now)) (a .v .now) (l .at / 32) ∙ omega arith in
+    let put : stored .store .last .0 ≡ paste (l .out) (l .at) v (min 32 (length (l .out) - l .at)) = stored .store .ensures in (
       search needs,
       omega arith,
       search needs,
-      search needs,
-      turn-stored temp w (l .out) _ (l .at) _ more (l .inv .2) (omega arith) size (omega arith) (l .inv .4) put,
+      next .hmac-of .ensures .1,
+      turn-stored temp v (l .out) _ (l .at) _ more (l .inv .2) (omega arith) size (next .hmac-of .ensures .1) (l .inv .4) put,
       sym (ap (λ t. t .1) more),
     )
 
@@ -65,11 +65,13 @@ returns c =
     let start = c .before .before .before in
     let a = start .args in
     let turns = turns-are (length (a .out .now)) (l .at) (l .inv .0) (omega arith) (l .inv .1) in
-    let one-block = length-filled sha256 (a .key) (omega (arith, start)) in
-    sym
-    (rw turns
-    (same-metered (ap₂ (λ x y. (x, y)) (sym (l .inv .4) ∙ take-all (l .at) (l .out) (omega arith)) (sym (l .inv .5)))
-    (outputTurns-blocks sha256 (lit< tt) (ready (a .key)) (a .v) (l .at / 32) one-block (omega (arith, start)))))
+    let one-block = length-filled sha256 (a .key .now) (omega (arith, start)) in (
+      sym
+          (rw turns
+          (same-metered (ap₂ (λ x y. (x, y)) (sym (l .inv .4) ∙ take-all (l .at) (l .out) (omega arith)) (sym (l .inv .5)))
+          (outputTurns-blocks sha256 (lit< tt) (ready (a .key .now)) (a .v .now) (l .at / 32) one-block (omega (arith, start))))),
+      l .inv .3,
+    )
 
 pub output-filled-spec : {M : Type 1} → statement M
 output-filled-spec =

@@ -1,16 +1,17 @@
 -- No sound table, no such generator, refused by a reason, or served. Each exit cites the law of what it has found. Assumes nothing.
-use mathlib.Core.Path.{_≡_, refl, sym, ap, _∙_}
+use mathlib.Core.Path.{_≡_, refl, sym, _∙_}
 use mathlib.Core.List.{List}
-use Prim.Native.Nat.{ℕ}
+use Prim.Native.Nat.{ℕ, _+_}
+use native.Mathlib.Omega.{arith}
 use borrow.Author.Needs.{needs}
+use Rattle.drbg_shared.specs.Generator.{ledOn}
 use Rattle.slots.specs.Bytes.{tableOf}
 use Rattle.reasons.specs.Reasons.{firstOf}
 use Rattle.reasons.proofs.Allowed.{may-draw}
 use Rattle.table.specs.Calls.{Call, draws, draw, reasonsOf}
-use Rattle.table.specs.OnBytes.{Done}
-use Rattle.table.proofs.Outcomes.{Named, names-slot, unnamed, below, counter-fits}
+use Rattle.table.proofs.Outcomes.{Named, names-slot, unnamed, below, fields-whole, counter-fits}
 use Rattle.table.proofs.Exits.{first-unnamed, first-draw, draw-served, allowed}
-use Rattle.table.proofs.OnBytes.{Whole, whole, bytes-known, served-on, refused-on, unsound-on, two-some}
+use Rattle.table.proofs.OnBytes.{Whole, whole, bytes-known, with-output, served-on, refused-on, unsound-on, two-some}
 use Rattle.table.proofs.drawing.draw.Statement.{statement}
 use Rattle.table.proofs.drawing.draw.Tie as tie
 
@@ -21,7 +22,7 @@ bytes c = c .args .table .now
 abbrev asked : tie.Start → Call
 asked c = draws (c .args .handle) (c .args .strength) (c .args .out .now) (c .args .additional .now)
 
--- places of the code: the lent table, the scan, the look-up, the slot, the first reason
+-- places of the code: the lent table, the scan, the look-up, the slot, the first reason, no reason
 abbrev known : tie.After-is-sound → tie.After-slice-known
 known c = c .before .before .before .before
 
@@ -42,6 +43,9 @@ start c = known (scan c .before) .before
 
 abbrev begun : tie.After-draw-reason → tie.Start
 begun c = start (looked (found c))
+
+abbrev chosen : tie.After-drawn → tie.Else2
+chosen c = c .before .before .before .before .before .before .before
 
 scanned : (c : tie.Else1) → Whole (bytes (known (c .before) .before))
 scanned c = whole (c .before .is-sound .ensures) (c .if1 .left)
@@ -84,31 +88,37 @@ returns-3 c =
     refused-on _ _ (bytes-known (known (past .before) .slice-known .given)) (c .refused3 .ensures) (scanned past .sized) (first at)
     (c .before .if2 .taken)
 
+add-counted : tie.Need-add-counted
+add-counted c =
+    let at = c .before .before .before .before in
+    omega (arith, counter-fits (names-it (found at)) (slot at .slot-at .ensures))
+
 drawn-requires : tie.Need-drawn-requires
 drawn-requires c κs =
-    let served = c .before .before in
+    let served = c .before .before .before .before .before .before in
     let at = served .before in
     let may = may-draw (allowed (tableOf (bytes (begun at))) (asked (begun at)) (first at) (served .if2 .left)) in
-    let small = counter-fits (names-it (found at)) (slot at .slot-at .ensures) (c .before .generator-of .ensures) in
-    (may .request-most, may .additional-most, small)
+    (fields-whole (names-it (found at)) (slot at .slot-at .ensures), (may .request-most, may .additional-most))
 
 stepped-requires : tie.Need-stepped-requires
 stepped-requires c κs =
-    let at = c .before .before .before .before .before .before .before in
+    let at = chosen (c .before .before .before) .before in
     (scanned (scan (looked (found at))) .sized, below (names-it (found at)), slot at .slot-at .ensures)
 
 returns-4 : tie.Need-returns-4
 returns-4 c =
     let filled = c .before .before .before .before .before .before in
-    let made = filled .before .before in
-    let served = made .before in
+    let served = chosen filled in
     let at = served .before in
     let a = begun at .args in
-    ap (λ (d : Done). record { told = d .told; table = d .table; output = filled .drawn .last .1 .1 .1 .0 })
+    let last = filled .drawn .last in
+    let counted = slot at .slot-at .result .counter + 1 in
+    with-output (tableOf (bytes (begun at))) (found at .before .i .given .0 .0)
+    (record { served = ledOn (last .1 .0) (last .1 .1 .0) counted (filled .drawn .result); output = last .1 .1 .1 .1 .1 .0 })
     (c .before .before .stepped .ensures) ∙
     served-on _ _ (scanned (scan (looked (found at))) .sized) (first at) (served .if2 .left)
     (draw-served (names-it (found at)) (slot at .slot-at .ensures) (a .strength) (a .out .now) (a .additional .now)
-    (rw (made .generator-of .ensures) at (filled .drawn .ensures .0)))
+    (filled .drawn .ensures .0))
 
 pub draw-spec : {M : Type 1} → statement M
 draw-spec =
@@ -116,4 +126,4 @@ draw-spec =
     (tie.spec
     (λ c κs. search needs) (λ c κs. search needs) (λ c. search needs) returns look-up-requires (λ c. search needs) (λ c. search needs)
     (λ c κs. search needs) (λ c. search needs) returns-2 slot-at-requires (λ c κs. search needs) (λ c κs. search needs)
-    (λ c. search needs) returns-3 (λ c κs. search needs) drawn-requires stepped-requires (λ c. search needs) (λ c. search needs) returns-4)
+    (λ c. search needs) returns-3 add-counted drawn-requires stepped-requires (λ c. search needs) (λ c. search needs) returns-4)

@@ -1,16 +1,17 @@
 -- No sound table, no such generator, refused by a reason, or served. Each exit cites the law of what it has found. Assumes nothing.
-use mathlib.Core.Path.{_≡_, refl, sym, ap, _∙_}
+use mathlib.Core.Path.{_≡_, refl, sym, _∙_}
 use mathlib.Core.List.{List}
 use Prim.Native.Nat.{ℕ}
+use native.Mathlib.Omega.{arith}
 use borrow.Author.Needs.{needs}
+use Rattle.drbg_shared.specs.Generator.{ledOn}
 use Rattle.slots.specs.Bytes.{tableOf}
 use Rattle.reasons.specs.Reasons.{firstOf}
 use Rattle.reasons.proofs.Allowed.{may-draw-fresh}
 use Rattle.table.specs.Calls.{Call, freshDraws, fresh-draw, reasonsOf}
-use Rattle.table.specs.OnBytes.{Done}
-use Rattle.table.proofs.Outcomes.{Named, names-slot, unnamed, below}
+use Rattle.table.proofs.Outcomes.{Named, names-slot, unnamed, below, fields-whole}
 use Rattle.table.proofs.Exits.{first-unnamed, first-fresh-draw, fresh-draw-served, allowed}
-use Rattle.table.proofs.OnBytes.{Whole, whole, bytes-known, served-on, refused-on, unsound-on, two-some}
+use Rattle.table.proofs.OnBytes.{Whole, whole, bytes-known, with-output, served-on, refused-on, unsound-on, two-some}
 use Rattle.table.proofs.fresh_drawing.fresh_draw.Statement.{statement}
 use Rattle.table.proofs.fresh_drawing.fresh_draw.Tie as tie
 
@@ -21,7 +22,7 @@ bytes c = c .args .table .now
 abbrev asked : tie.Start → Call
 asked c = freshDraws (c .args .handle) (c .args .strength) (c .args .out .now) (c .args .entropy .now) (c .args .additional .now)
 
--- places of the code: the lent table, the scan, the look-up, the slot, the first reason
+-- places of the code: the lent table, the scan, the look-up, the slot, the first reason, no reason
 abbrev known : tie.After-is-sound → tie.After-slice-known
 known c = c .before .before .before .before .before
 
@@ -42,6 +43,9 @@ start c = known (scan c .before) .before
 
 abbrev begun : tie.After-fresh-draw-reason → tie.Start
 begun c = start (looked (found c))
+
+abbrev chosen : tie.After-fresh-drawn → tie.Else2
+chosen c = c .before .before .before .before .before .before
 
 scanned : (c : tie.Else1) → Whole (bytes (known (c .before) .before))
 scanned c = whole (c .before .is-sound .ensures) (c .if1 .left)
@@ -89,28 +93,31 @@ returns-3 c =
 
 fresh-drawn-requires : tie.Need-fresh-drawn-requires
 fresh-drawn-requires c κs =
-    let served = c .before .before in
+    let served = c .before .before .before .before .before in
     let at = served .before in
-    let may = may-draw-fresh (allowed (tableOf (bytes (begun at))) (asked (begun at)) (first at) (served .if2 .left)) in
-    (may .request-most, may .entropy-most, may .additional-most)
+    let may = may-draw-fresh (allowed (tableOf (bytes (begun at))) (asked (begun at)) (first at) (served .if2 .left)) in (
+      fields-whole (names-it (found at)) (slot at .slot-at .ensures),
+      omega (arith, may .request-most, may .entropy-most, may .additional-most),
+    )
 
 stepped-requires : tie.Need-stepped-requires
 stepped-requires c κs =
-    let at = c .before .before .before .before .before .before .before in
+    let at = chosen (c .before .before .before) .before in
     (scanned (scan (looked (found at))) .sized, below (names-it (found at)), slot at .slot-at .ensures)
 
 returns-4 : tie.Need-returns-4
 returns-4 c =
     let filled = c .before .before .before .before .before .before in
-    let made = filled .before .before in
-    let served = made .before in
+    let served = chosen filled in
     let at = served .before in
     let a = begun at .args in
-    ap (λ (d : Done). record { told = d .told; table = d .table; output = filled .fresh-drawn .last .1 .1 .1 .1 .0 })
+    let last = filled .fresh-drawn .last in
+    with-output (tableOf (bytes (begun at))) (found at .before .i .given .0 .0)
+    (record { served = ledOn (last .1 .0) (last .1 .1 .0) 2 (filled .fresh-drawn .result); output = last .1 .1 .1 .1 .1 .0 })
     (c .before .before .stepped .ensures) ∙
     served-on _ _ (scanned (scan (looked (found at))) .sized) (first at) (served .if2 .left)
     (fresh-draw-served (names-it (found at)) (slot at .slot-at .ensures) (a .strength) (a .out .now) (a .entropy .now) (a .additional .now)
-    (rw (made .generator-of .ensures) at (filled .fresh-drawn .ensures)))
+    (filled .fresh-drawn .ensures (slot at .slot-at .result .counter)))
 
 pub fresh-draw-spec : {M : Type 1} → statement M
 fresh-draw-spec =
@@ -118,5 +125,5 @@ fresh-draw-spec =
     (tie.spec
     (λ c κs. search needs) (λ c κs. search needs) (λ c. search needs) returns look-up-requires (λ c. search needs) (λ c. search needs)
     (λ c κs. search needs) (λ c. search needs) returns-2 slot-at-requires (λ c κs. search needs) (λ c κs. search needs)
-    (λ c. search needs) returns-3 (λ c κs. search needs) fresh-drawn-requires stepped-requires (λ c. search needs) (λ c. search needs)
+    (λ c. search needs) returns-3 fresh-drawn-requires stepped-requires (λ c. search needs) (λ c. search needs)
     returns-4)

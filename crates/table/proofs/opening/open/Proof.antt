@@ -7,6 +7,7 @@ use Prim.Native.Nat.{ℕ, _+_, _<_}
 use mir.Syntax.{w8}
 use mir.Val.{Fits}
 use borrow.Author.Needs.{needs}
+use Rattle.drbg_shared.specs.Generator.{holding}
 use Rattle.slots.specs.Layout.{withSlot, withLastSerial}
 use Rattle.slots.specs.Bytes.{tableBytes, tableOf}
 use Rattle.slots.specs.Handle.{handleOf}
@@ -29,7 +30,7 @@ asked c =
     let a = c .args in
     opens (a .mechanism) (a .strength) (a .interval) (a .fresh) (a .entropy .now) (a .nonce .now) (a .personalization .now)
 
--- places of the code: the lent table, the lowest free slot, the last serial, the first reason
+-- places of the code: the lent table, the lowest free slot, the last serial, the first reason, no reason
 abbrev known : tie.After-is-sound → tie.After-slice-known
 known c = c .before .before .before .before .before
 
@@ -41,6 +42,9 @@ lowest c = serial c .before .before
 
 abbrev scan : tie.After-open-reason → tie.Else1
 scan c = lowest c .before .before
+
+abbrev chosen : tie.After-opened → tie.Else2
+chosen c = c .before .before .before
 
 abbrev begun : tie.After-open-reason → tie.Start
 begun c = known (scan c .before) .before
@@ -94,37 +98,39 @@ add-serial : tie.Need-add-serial
 add-serial c = omega (arith, serial (c .before) .last-serial .ensures, may-open (none c) .serials-left)
 
 opened-requires : tie.Need-opened-requires
-opened-requires c κs = let may = may-open (none c) in (may .entropy-most, may .nonce-most, may .personalization-most)
+opened-requires c κs =
+    let may = may-open (none (c .before .before)) in
+    (may .entropy-most, may .nonce-most, may .personalization-most)
 
 put-new-slot-requires : tie.Need-put-new-slot-requires
 put-new-slot-requires c κs =
-    let chosen = c .before .before .before .before .before in
-    (scanned (scan (chosen .before)) .sized, slot-below chosen)
+    let here = chosen (c .before .before .before) in
+    (scanned (scan (here .before)) .sized, slot-below here)
 
 handle-of-requires : tie.Need-handle-of-requires
-handle-of-requires c κs = slot-below (c .before .before .before .before .before .before .before .before)
+handle-of-requires c κs = slot-below (chosen (c .before .before .before .before .before .before))
 
 returns-3 : tie.Need-returns-3
 unfolding installed
 returns-3 c =
     let new = c .before .before .before .before .before .before in
-    let served = new .before .before .before in
-    let chosen = served .before in
-    let at = chosen .before in
+    let served = new .before .before in
+    let at = chosen served .before in
     let a = begun at .args in
     let t = tableOf (bytes (begun at)) in
     let i = lowest at .lowest-free .result in
     let next = serial at .last-serial .result + 1 in
+    let g = holding (served .opened .last .1 .0) (served .opened .last .1 .1 .0) 1 in
     let put = c .before .before .before .before .put-new-slot in
     let in-place : put .last .0 ≡ tableBytes (withLastSerial (withSlot t i (new .new-slot .result)) next) = put .ensures in
     let handle : c .before .handle-of .result ≡ handleOf next i = c .before .handle-of .ensures in
     ap₂ (λ r e. record { told = r; table = e; output = [] })
-    (c .accepted .ensures ∙ ap (toldServed (served .opened .result .blocks)) handle)
+    (c .accepted .ensures ∙ ap (toldServed (served .opened .result)) handle)
     (in-place ∙
     ap (λ x. tableBytes (withLastSerial (withSlot t i x) next))
     (new .new-slot .ensures ∙
-    ap (λ k. newSlot (a .mechanism) k (a .interval) (a .fresh) next (served .opened .result .generator)) (new .before .rounded .ensures))) ∙
-    served-on _ _ (scanned (scan at) .sized) (first at) (chosen .if2 .left)
+    ap (λ k. newSlot (a .mechanism) k (a .interval) (a .fresh) next g) (new .before .rounded .ensures))) ∙
+    served-on _ _ (scanned (scan at) .sized) (first at) (chosen served .if2 .left)
     (open-served t (lowest at .lowest-free .ensures) (serial at .last-serial .ensures) (a .mechanism) (a .strength) (a .interval)
     (a .fresh) (a .entropy .now) (a .nonce .now) (a .personalization .now) (served .opened .ensures))
 

@@ -2,12 +2,13 @@
 use mathlib.Core.Path.{_≡_, refl, sym, _∙_}
 use mathlib.Core.List.{List}
 use Prim.Native.Nat.{ℕ}
+use native.Mathlib.Omega.{arith}
 use borrow.Author.Needs.{needs}
 use Rattle.slots.specs.Bytes.{tableOf}
 use Rattle.reasons.specs.Reasons.{firstOf}
 use Rattle.reasons.proofs.Allowed.{may-reseed}
 use Rattle.table.specs.Calls.{Call, reseeds, reseed, reasonsOf}
-use Rattle.table.proofs.Outcomes.{Named, names-slot, unnamed, below}
+use Rattle.table.proofs.Outcomes.{Named, names-slot, unnamed, below, fields-whole}
 use Rattle.table.proofs.Exits.{first-unnamed, first-reseed, reseed-served, allowed}
 use Rattle.table.proofs.OnBytes.{Whole, whole, bytes-known, served-on, refused-on, unsound-on, two-some}
 use Rattle.table.proofs.reseeding.reseed.Statement.{statement}
@@ -20,7 +21,7 @@ bytes c = c .args .table .now
 abbrev asked : tie.Start → Call
 asked c = reseeds (c .args .handle) (c .args .entropy .now) (c .args .additional .now)
 
--- places of the code: the lent table, the scan, the look-up, the slot, the first reason
+-- places of the code: the lent table, the scan, the look-up, the slot, the first reason, no reason
 abbrev known : tie.After-is-sound → tie.After-slice-known
 known c = c .before .before .before .before
 
@@ -41,6 +42,9 @@ start c = known (scan c .before) .before
 
 abbrev begun : tie.After-reseed-reason → tie.Start
 begun c = start (looked (found c))
+
+abbrev chosen : tie.After-reseeded → tie.Else2
+chosen c = c .before .before .before .before .before
 
 scanned : (c : tie.Else1) → Whole (bytes (known (c .before) .before))
 scanned c = whole (c .before .is-sound .ensures) (c .if1 .left)
@@ -85,27 +89,26 @@ returns-3 c =
 
 reseeded-requires : tie.Need-reseeded-requires
 reseeded-requires c κs =
-    let served = c .before in
+    let served = c .before .before .before .before in
     let at = served .before in
     let may = may-reseed (allowed (tableOf (bytes (begun at))) (asked (begun at)) (first at) (served .if2 .left)) in
-    (may .entropy-most, may .additional-most)
+    (fields-whole (names-it (found at)) (slot at .slot-at .ensures), omega (arith, may .entropy-most, may .additional-most))
 
 stepped-requires : tie.Need-stepped-requires
 stepped-requires c κs =
-    let at = c .before .before .before .before in
+    let at = chosen (c .before) .before in
     (scanned (scan (looked (found at))) .sized, below (names-it (found at)), slot at .slot-at .ensures)
 
 returns-4 : tie.Need-returns-4
 returns-4 c =
     let new = c .before .before .before .before in
-    let made = new .before in
-    let served = made .before in
+    let served = chosen new in
     let at = served .before in
     let a = begun at .args in
     c .before .before .stepped .ensures ∙
     served-on _ _ (scanned (scan (looked (found at))) .sized) (first at) (served .if2 .left)
     (reseed-served (names-it (found at)) (slot at .slot-at .ensures) (a .entropy .now) (a .additional .now)
-    (rw (made .generator-of .ensures) at (new .reseeded .ensures .0)))
+    (new .reseeded .ensures .0 (slot at .slot-at .result .counter)))
 
 pub reseed-spec : {M : Type 1} → statement M
 reseed-spec =
@@ -113,4 +116,4 @@ reseed-spec =
     (tie.spec
     (λ c κs. search needs) (λ c κs. search needs) (λ c. search needs) returns look-up-requires (λ c. search needs) (λ c. search needs)
     (λ c κs. search needs) (λ c. search needs) returns-2 slot-at-requires (λ c κs. search needs) (λ c κs. search needs)
-    (λ c. search needs) returns-3 (λ c κs. search needs) reseeded-requires stepped-requires (λ c. search needs) returns-4)
+    (λ c. search needs) returns-3 reseeded-requires stepped-requires (λ c. search needs) returns-4)
