@@ -44,8 +44,8 @@ const struct source library = { "library", library_open, library_draw, PURANGSA_
 uint64_t purangsa_bench_open(uint8_t mechanism, const uint8_t *entropy, size_t entropy_length, const uint8_t *nonce,
                              size_t nonce_length, uint8_t *first, size_t first_length, uint8_t *second,
                              size_t second_length);
-uint64_t purangsa_bench_draw(uint8_t mechanism, uint8_t *first, size_t first_length, uint8_t *second,
-                             size_t second_length, uint64_t counter, uint8_t *out, size_t length);
+uint64_t purangsa_bench_draw(uint8_t mechanism, uint8_t *first, size_t first_length, uint8_t *second, size_t second_length,
+                             uint64_t counter, const uint8_t *additional, size_t additional_length, uint8_t *out, size_t length);
 
 /* A generator as it stands in a slot. */
 static struct {
@@ -64,8 +64,8 @@ static void alone_open(uint8_t mechanism)
 
 static uint64_t alone_draw(uint8_t *out, size_t length)
 {
-    uint64_t blocks = purangsa_bench_draw(slot.mechanism, slot.first, sizeof slot.first, slot.second,
-                                          sizeof slot.second, slot.counter, out, length);
+    uint64_t blocks = purangsa_bench_draw(slot.mechanism, slot.first, sizeof slot.first, slot.second, sizeof slot.second, slot.counter, none,
+                                          0, out, length);
     if (blocks == 0)
         fail("we do not draw");
     slot.counter++;

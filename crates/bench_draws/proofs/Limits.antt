@@ -35,17 +35,17 @@ module _ (mechanism : ℕ) (entropy nonce first second : List ℕ) where
   unfolding openedIn
   opened-so test = rw test
 
-module _ (mechanism : ℕ) (first second : List ℕ) (counter : ℕ) (out : List ℕ) where
-  pub drawn-not : inLimits (length first) (length second) (length out) 65536 counter 281474976710656 ≡ false
-      → drawnIn mechanism first second counter out ≡ record { first = first; second = second; blocks = 0; output = out }
+module _ (mechanism : ℕ) (first second : List ℕ) (counter : ℕ) (additional out : List ℕ) where
+  pub drawn-not : inLimits (length first) (length second) (length out) 65536 (length additional) 1024 ≡ false
+      → drawnIn mechanism first second counter additional out ≡ record { first = first; second = second; blocks = 0; output = out }
   unfolding drawnIn
   drawn-not test = rw test
 
-  pub drawn-so : inLimits (length first) (length second) (length out) 65536 counter 281474976710656 ≡ true → (drawn : Filled)
+  pub drawn-so : inLimits (length first) (length second) (length out) 65536 (length additional) 1024 ≡ true → (drawn : Filled)
       → drawn
       ≡ filled
       (draw sha256 (mechanismOf mechanism) (stateOf (mechanismOf mechanism) (record { first = first; second = second; counter = counter }))
-      (length out) [])
-      → drawnIn mechanism first second counter out ≡ heldIn (drawn .served) (drawn .output)
+      (length out) additional)
+      → drawnIn mechanism first second counter additional out ≡ heldIn (drawn .served) (drawn .output)
   unfolding drawnIn
   drawn-so test drawn is = rw (test, is)

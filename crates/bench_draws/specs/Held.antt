@@ -1,5 +1,5 @@
 -- What the bench's two functions hand back, by the standard's opening and draw: a generator's two fields, the blocks and the output.
--- Where a length or the counter is not one that the bench uses, nothing is done and the count is 0.
+-- Where a length is not one that the bench uses, nothing is done and the count is 0.
 use Prim.Native.Nat.{ℕ}
 use mathlib.Core.Bool.{Bool, _&&_, cond}
 use mathlib.Core.List.{List, []}
@@ -29,11 +29,11 @@ openedIn mechanism entropy nonce first second =
     (heldIn (served (opening sha256 (mechanismOf mechanism) entropy nonce [])) [])
     (record { first = first; second = second; blocks = 0; output = [] })
 
-unfoldable pub drawnIn : (mechanism : ℕ) (first second : List ℕ) (counter : ℕ) (out : List ℕ) → Held
-drawnIn mechanism first second counter out =
+unfoldable pub drawnIn : (mechanism : ℕ) (first second : List ℕ) (counter : ℕ) (additional out : List ℕ) → Held
+drawnIn mechanism first second counter additional out =
     let m = mechanismOf mechanism in
     let state = stateOf m (record { first = first; second = second; counter = counter }) in
-    let drawn = filled (draw sha256 m state (length out) []) in
-    cond (inLimits (length first) (length second) (length out) 65536 counter 281474976710656)
+    let drawn = filled (draw sha256 m state (length out) additional) in
+    cond (inLimits (length first) (length second) (length out) 65536 (length additional) 1024)
     (heldIn (drawn .served) (drawn .output))
     (record { first = first; second = second; blocks = 0; output = out })

@@ -65,26 +65,25 @@ pub extern "C" fn purangsa_bench_draw(
     first: &mut [u8],
     second: &mut [u8],
     counter: u64,
+    additional: &[u8],
     out: &mut [u8],
 ) -> u64
     ensures { λ r. ⌜ record { first = now (first .exit); second = now (second .exit); blocks = r; output = now (out .exit) }
-        ≡ drawnIn mechanism (now (first .entry)) (now (second .entry)) counter (now (out .entry)) ⌝ }
+        ≡ drawnIn mechanism (now (first .entry)) (now (second .entry)) counter (now (additional .entry)) (now (out .entry)) ⌝ }
 {
     if !in_limits(
         first.len(),
         second.len(),
         out.len(),
         65536,
-        counter,
-        281474976710656,
+        additional.len() as u64,
+        1024,
     ) {
         return 0;
     }
     let mut a = field_of(first);
     let mut b = field_of(second);
-    let one = [0u8; 1];
-    let none = &one[..0];
-    let blocks = generator::drawn(mechanism, &mut a, &mut b, counter, none, out);
+    let blocks = generator::drawn(mechanism, &mut a, &mut b, counter, additional, out);
     put(first, a);
     put(second, b);
     blocks

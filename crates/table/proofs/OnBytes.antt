@@ -41,7 +41,7 @@ bytes-known known = record { at = λ i. known i .fits }
 one-some : _≡_ {A = ℕ} 1 0 → ⊥
 one-some e = omega arith
 
--- a generator's step in its table, and beside it the output that was drawn
+-- a generator's step in its table, and beside it the output that was drawn, if any
 pub with-output : (t : Table) (i : ℕ) (r : Filled) {told : Told} {table : List ℕ}
     → leaving told table [] ≡ done (record { answer = stepped t i (r .served); output = [] })
     → leaving told table (r .output) ≡ done (steppedDraw t i r)

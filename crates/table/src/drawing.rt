@@ -34,12 +34,13 @@ pub fn draw(table: &mut [u8], handle: u64, strength: u64, additional: &[u8], out
     }
     let mut first = s.first;
     let mut second = s.second;
-    let counted = s.counter + 1;
+    let counter = s.counter;
+    let counted = counter + 1;
     let blocks = generator::drawn(
         s.mechanism,
         &mut first,
         &mut second,
-        s.counter,
+        counter,
         additional,
         out,
     );

@@ -2,7 +2,6 @@
 use Prim.Native.Nat.{_+_, _≤_}
 use mathlib.Core.Path.{_≡_, sym, ap, ap₂, _∙_}
 use mathlib.Core.Bool.{true}
-use mathlib.Core.List.{[]}
 use lib.ListN.{length}
 use borrow.Author.Tests.{not-true, not-false}
 use Rattle.standard.specs.Functions.{draw}
@@ -16,27 +15,27 @@ use Rattle.bench_draws.proofs.purangsa_bench_draw.Statement.{statement}
 use Rattle.bench_draws.proofs.purangsa_bench_draw.Tie as tie
 
 abbrev start : tie.After-in-limits → tie.Start
-start c = c .before .before .before .before
+start c = c .before .before .before .before .before
 
 returns : tie.Need-returns
 returns c =
     let tested = c .before in
     let a = start tested .args in
     sym
-    (drawn-not (a .mechanism) (a .first .now) (a .second .now) (a .counter) (a .out .now)
+    (drawn-not (a .mechanism) (a .first .now) (a .second .now) (a .counter) (a .additional .now) (a .out .now)
     (sym (tested .in-limits .ensures) ∙ not-true (tested .in-limits .result) (c .if1 .taken)))
 
 -- behind the test
 module _ (c : tie.Else1) where
   within :
       inLimits (length (start (c .before) .args .first .now)) (length (start (c .before) .args .second .now))
-      (length (start (c .before) .args .out .now)) 65536 (start (c .before) .args .counter) 281474976710656
+      (length (start (c .before) .args .out .now)) 65536 (length (start (c .before) .args .additional .now)) 1024
       ≡ true
   within = sym (c .before .in-limits .ensures) ∙ not-false (c .before .in-limits .result) (c .if1 .left)
 
   sizes :
       (length (start (c .before) .args .first .now) ≡ 55) × (length (start (c .before) .args .second .now) ≡ 55) ×
-      (length (start (c .before) .args .out .now) ≤ 65536) × (start (c .before) .args .counter ≤ 281474976710656)
+      (length (start (c .before) .args .out .now) ≤ 65536) × (length (start (c .before) .args .additional .now) ≤ 1024)
   sizes = limits-are _ _ _ _ _ _ within
 
 -- the test, from the second field on
@@ -51,15 +50,15 @@ field-of-requires-2 c κs = sizes (c .before .before .before) .1
 
 drawn-requires : tie.Need-drawn-requires
 drawn-requires c κs =
-    let second = c .before .before .before .before in
+    let second = c .before .before .before in
     let known = sizes (tested second) in (
       (ap length (second .before .before .field-of .ensures) ∙ known .0, ap length (second .field-of2 .ensures) ∙ known .1),
-      (known .2, search needs),
+      (known .2, known .3),
     )
 
 -- the fields, from the draw on
 abbrev fields : tie.After-drawn → tie.After-field-of2
-fields c = c .before .before .before .before .before
+fields c = c .before .before .before .before
 
 put-requires : tie.Need-put-requires
 put-requires c κs = sizes (tested (fields (c .before .before .before))) .0
@@ -84,15 +83,15 @@ returns-2 c =
     λ i. record { first = first .put .ensures i; second = second .put2 .ensures i; blocks = blocks; output = out } in
     let drawn =
     done .drawn .ensures .0 ∙
-    ap₂ (λ x y. filled (draw sha256 m (stateOf m (holding x y (a .counter))) (length (a .out .now)) []))
+    ap₂ (λ x y. filled (draw sha256 m (stateOf m (holding x y (a .counter))) (length (a .out .now)) (a .additional .now)))
     (took .before .before .field-of .ensures) (took .field-of2 .ensures) in
     held ∙
     sym
-    (drawn-so (a .mechanism) (a .first .now) (a .second .now) (a .counter) (a .out .now) (within (tested took))
+    (drawn-so (a .mechanism) (a .first .now) (a .second .now) (a .counter) (a .additional .now) (a .out .now) (within (tested took))
     (record { served = r; output = out }) drawn)
 
 pub purangsa-bench-draw-spec : {M : Type 1} → statement M
 purangsa-bench-draw-spec =
     tie.close
-    (tie.spec (λ c κs. search needs) returns field-of-requires field-of-requires-2 (λ c. search needs) (λ c. search needs) drawn-requires
+    (tie.spec (λ c κs. search needs) returns field-of-requires field-of-requires-2 drawn-requires
     put-requires put-requires-2 (λ c. search needs) (λ c. search needs) (λ c. search needs) returns-2)

@@ -45,7 +45,7 @@ abbrev begun : tie.After-draw-reason → tie.Start
 begun c = start (looked (found c))
 
 abbrev chosen : tie.After-drawn → tie.Else2
-chosen c = c .before .before .before .before .before .before .before
+chosen c = c .before .before .before .before .before .before
 
 scanned : (c : tie.Else1) → Whole (bytes (known (c .before) .before))
 scanned c = whole (c .before .is-sound .ensures) (c .if1 .left)
@@ -90,12 +90,12 @@ returns-3 c =
 
 add-counted : tie.Need-add-counted
 add-counted c =
-    let at = c .before .before .before .before in
+    let at = c .before .before .before in
     omega (arith, counter-fits (names-it (found at)) (slot at .slot-at .ensures))
 
 drawn-requires : tie.Need-drawn-requires
 drawn-requires c κs =
-    let served = c .before .before .before .before .before .before in
+    let served = c .before .before .before .before .before in
     let at = served .before in
     let may = may-draw (allowed (tableOf (bytes (begun at))) (asked (begun at)) (first at) (served .if2 .left)) in
     (fields-whole (names-it (found at)) (slot at .slot-at .ensures), (may .request-most, may .additional-most))

@@ -1,16 +1,17 @@
 -- No sound table, no such generator, refused by a reason, or served. Each exit cites the law of what it has found. Assumes nothing.
 use mathlib.Core.Path.{_≡_, refl, sym, _∙_}
-use mathlib.Core.List.{List}
+use mathlib.Core.List.{List, []}
 use Prim.Native.Nat.{ℕ}
 use native.Mathlib.Omega.{arith}
 use borrow.Author.Needs.{needs}
+use Rattle.drbg_shared.specs.Generator.{ledOn}
 use Rattle.slots.specs.Bytes.{tableOf}
 use Rattle.reasons.specs.Reasons.{firstOf}
 use Rattle.reasons.proofs.Allowed.{may-reseed}
 use Rattle.table.specs.Calls.{Call, reseeds, reseed, reasonsOf}
 use Rattle.table.proofs.Outcomes.{Named, names-slot, unnamed, below, fields-whole}
 use Rattle.table.proofs.Exits.{first-unnamed, first-reseed, reseed-served, allowed}
-use Rattle.table.proofs.OnBytes.{Whole, whole, bytes-known, served-on, refused-on, unsound-on, two-some}
+use Rattle.table.proofs.OnBytes.{Whole, whole, bytes-known, with-output, served-on, refused-on, unsound-on, two-some}
 use Rattle.table.proofs.reseeding.reseed.Statement.{statement}
 use Rattle.table.proofs.reseeding.reseed.Tie as tie
 
@@ -105,7 +106,9 @@ returns-4 c =
     let served = chosen new in
     let at = served .before in
     let a = begun at .args in
-    c .before .before .stepped .ensures ∙
+    let last = new .reseeded .last in
+    with-output (tableOf (bytes (begun at))) (found at .before .i .given .0 .0)
+    (record { served = ledOn (last .1 .0) (last .1 .1 .0) 1 (new .reseeded .result); output = [] }) (c .before .before .stepped .ensures) ∙
     served-on _ _ (scanned (scan (looked (found at))) .sized) (first at) (served .if2 .left)
     (reseed-served (names-it (found at)) (slot at .slot-at .ensures) (a .entropy .now) (a .additional .now)
     (new .reseeded .ensures .0 (slot at .slot-at .result .counter)))
