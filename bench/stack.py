@@ -1,4 +1,4 @@
-"""python3 bench/stack.py FOLDER ARCHIVE: what bench/stack has measured, as a table and a sentence; printed, and written into docs/BENCH.md.
+"""python3 bench/stack.py FOLDER ARCHIVE: what bench/stack has measured, as two tables and a sentence; printed, and written into docs/BENCH.md.
 
 FOLDER has the program `secrets`, linked with the archive at fixed addresses, what callgrind saw of it (`reached`), the number of its
 calls (`calls`), and the stack of each call (`depths`).
@@ -32,7 +32,7 @@ def stack_table(text):
 
 
 def instructions(archive):
-    """Of the proved object, by function: the place of each from the function's start. Fillers are none."""
+    """Of the proved object, by function: each instruction and its place from the function's start. Fillers are none."""
     found, here = {}, None
     for line in output_of("objdump", "-d", "--no-show-raw-insn", archive).splitlines():
         member = re.match(r"(\S+):\s+file format", line)
@@ -43,8 +43,25 @@ def instructions(archive):
         elif function and in_proved:
             here = found.setdefault(function[1], [])
         elif one and in_proved and not re.match(r"(data16 |cs )*nop|xchg\s+%ax,%ax", one[2]):
-            here.append(int(one[1], 16))
+            here.append((int(one[1], 16), one[2]))
     return found
+
+
+def frame(listed):
+    """A function's frame: the address to return to, what its beginning pushes, and what it then takes."""
+    size = 8
+    for _, text in listed:
+        taken = re.match(r"sub\s+\$0x([0-9a-f]+),%rsp", text)
+        if taken:
+            return size + int(taken[1], 16)
+        if text.startswith("push"):
+            size += 8
+    return size
+
+
+def frames_table(places):
+    frames = sorted(((frame(listed), name) for name, listed in places.items()), reverse=True)
+    return "\n".join(["| Frame | Function |", "|---:|---|", *(f"| {size:,} | `{name}` |" for size, name in frames)]) + "\n"
 
 
 def starts(program):
@@ -56,21 +73,23 @@ def reached(path):
     return {int(line.split()[0], 16) for line in open(path) if line.startswith("0x")}
 
 
-def counts(folder, archive):
+def counts(folder, places):
     """Instructions, and those that no call reached, as (function, place)."""
-    places, at, seen = instructions(archive), starts(folder / "secrets"), reached(folder / "reached")
-    missed = [(name, place) for name, listed in places.items() for place in listed if at[name] + place not in seen]
+    at, seen = starts(folder / "secrets"), reached(folder / "reached")
+    missed = [(name, place) for name, listed in places.items() for place, _ in listed if at[name] + place not in seen]
     return sum(map(len, places.values())), missed
 
 
 def main(folder, archive):
     folder = pathlib.Path(folder)
-    whole, missed = counts(folder, archive)
+    places = instructions(archive)
+    whole, missed = counts(folder, places)
     calls = (folder / "calls").read_text().split()[0]
     by_function = collections.Counter(name for name, _ in missed)
     where = f": {', '.join(f'{count} in `{name}`' for name, count in by_function.most_common())}" if missed else ""
     text = (
         f"{stack_table((folder / 'depths').read_text())}\n"
+        f"{frames_table(places)}\n"
         f"The proved part of the archive has {whole:,} instructions; the {calls} calls of `tests/secrets.c`, and its run of the\nlibrary's test of itself, reach all of them"
         f"{f' but {len(missed)}' if missed else ''}{where}.\n")
     print(text, end="")

@@ -159,8 +159,12 @@ uint64_t purangsa_self_test(void);
  * ran: by a signal that is handled on the same stack, by a switch to another thread, to swap or a core file; nor what the dynamic linker
  * stores when it looks memcpy up in the first call: link with -Wl,-z,now, as pkg-config says. It is plain C and assembler (library/wipe.c)
  * and not proved; that it works is tried in the gate, on the archive that ships. */
-enum { PURANGSA_WIPED = 8192 };
+enum { PURANGSA_WIPED = 4096 };
 void purangsa_wipe(void);
+
+/* What one of the six calls takes of the stack at most, below its caller's frame, in bytes. purangsa_self_test takes 9,728, and purangsa_wipe
+ * what it clears. Measured in the gate, on the archive that ships, and not proved; docs/STACK.md has it call by call. */
+enum { PURANGSA_MOST_STACK = 2176 };
 
 /* The strength of a generator that is opened at this one, which is rounded up to 112, 128, 192 or 256 (above 256 it is refused). */
 static inline uint64_t purangsa_rounded_strength(uint64_t strength)

@@ -28,13 +28,10 @@ __attribute__((constructor)) static void look(void)
 
 __attribute__((naked)) void purangsa_wipe(void)
 {
-    __asm__(".set wiped, 8192\n"
-            /* The stack: down first, page by page so that a guard page is met, then every byte up to the return address. */
-            "sub $4096, %rsp\n"
-            ".cfi_adjust_cfa_offset 4096\n"
-            "orq $0, (%rsp)\n"
-            "sub $wiped - 4096, %rsp\n"
-            ".cfi_adjust_cfa_offset wiped - 4096\n"
+    __asm__(".set wiped, 4096\n"
+            /* The stack: down first, a page at most, so that a guard page is met, then every byte up to the return address. */
+            "sub $wiped, %rsp\n"
+            ".cfi_adjust_cfa_offset wiped\n"
             "mov %rsp, %rdi\n"
             "mov $wiped / 8, %ecx\n"
             "xor %eax, %eax\n"
@@ -65,4 +62,4 @@ __attribute__((naked)) void purangsa_wipe(void)
             "ret\n");
 }
 
-_Static_assert(PURANGSA_WIPED == 8192, "what is cleared is what the header says");
+_Static_assert(PURANGSA_WIPED == 4096, "what is cleared is what the header says");

@@ -106,7 +106,7 @@ pub fn plus(a: [u64; 7], b: [u64; 7]) -> [u64; 7]
 }
 
 // The limbs' bytes but the last.
-pub fn number_of(limbs: [u64; 7]) -> [u8; 55]
+fn number_of(limbs: [u64; 7]) -> [u8; 55]
     ensures { λ r. ⌜ r ≡ valueIn limbs ⌝ }
 {
     let mut block = [0u8; 64];
