@@ -226,7 +226,7 @@ static double most_beside_openssl(size_t i, uint8_t m) { return i == LONGEST && 
 
 static void rows(void)
 {
-    row("compression\t\t\tportable C", our_compressions, portable_compressions, 2000, BLOCKS, 1.1);
+    row("compression\t\t\tportable C", our_compressions, portable_compressions, 2000, BLOCKS, 0.75);
     char wipe[80];
     snprintf(wipe, sizeof wipe, "wipe\t\t%d\tmemset of as many bytes", PURANGSA_WIPED);
     row(wipe, our_wipes, memsets, 2000, WIPES, 0);

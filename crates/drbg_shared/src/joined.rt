@@ -23,8 +23,7 @@ pub fn hash_joined<'a>(
     ensures { λ r. ⌜ digestOf r ≡ hash sha256 (now (first .entry) ++ (now (second .entry) ++ (now (third .entry) ++
         (now (fourth .entry) ++ (now (fifth .entry) ++ now (sixth .entry)))))) ⌝ }
 {
-    let mut h = Running::new();
-    h = h.update(first);
+    let mut h = Running::new().update(first);
     h = h.update(second);
     h = h.update(third);
     h = reader::read_through(h, fourth, fifth, sixth);
