@@ -1,7 +1,8 @@
 -- HMAC_DRBG's values as the code holds them, with their cost in blocks.
 use Prim.Native.Nat.{ℕ}
+use mathlib.Core.Path.{_≡_}
 use mathlib.Core.List.{List, _∷_, _++_}
-use lib.ListN.{take}
+use lib.ListN.{length, take}
 use Rattle.standard.specs.Metered.{Metered, return, _>>=_}
 use Rattle.standard.specs.Hmac.{Key, filled, hmac, rekey}
 use Rattle.standard.specs.HmacDrbg.{Keyed}
@@ -10,6 +11,10 @@ use Rattle.standard.specs.Sha256.{sha256}
 -- FIPS 198-1, table 1, steps 1 and 3: a key that is no longer than a block
 abbrev pub ready : List ℕ → Key
 ready K = record { bytes = K; K₀ = filled sha256 K }
+
+-- Key and V have their 32 bytes
+abbrev pub Sizes : (K v : List ℕ) → Type 0
+Sizes K v = (length K ≡ 32) × (length v ≡ 32)
 
 -- Key and V as the code holds them
 abbrev pub keyed : (K v : List ℕ) → Keyed

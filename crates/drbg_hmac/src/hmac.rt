@@ -12,7 +12,7 @@ ghost use Rattle.standard.specs.Hmac.{xored, filled, hmac};
 ghost use Rattle.standard.specs.Sha256.{sha256};
 ghost use Rattle.sha256.specs.Values.{digestOf};
 ghost use Rattle.drbg_shared.specs.Costs.{costing};
-ghost use Rattle.drbg_hmac.specs.Keys.{ready};
+ghost use Rattle.drbg_hmac.specs.Keys.{ready, Sizes};
 
 // Table 1, steps 4 and 7: the key, zeros behind it, each byte xored with the pad's.
 fn pad_block(key: &[u8; 32], pad: u8) -> [u8; 64]
@@ -39,7 +39,7 @@ fn last_block(v: &[u8; 32]) -> [u8; 64]
 
 // The hash of the key's pad block and 32 bytes, with no scratch between.
 fn hash_behind(key: &[u8; 32], pad: u8, v: &[u8; 32]) -> [u8; 32]
-    requires { ⌜ (length (now key) ≡ 32) × (length (now v) ≡ 32) ⌝ }
+    requires { ⌜ Sizes (now key) (now v) ⌝ }
     ensures { λ r. ⌜ costing 2 r ≡ hash sha256 (xored pad (filled sha256 (now (key .entry))) ++ now (v .entry)) ⌝ }
 {
     let first = pad_block(key, pad);
@@ -50,7 +50,7 @@ fn hash_behind(key: &[u8; 32], pad: u8, v: &[u8; 32]) -> [u8; 32]
 
 // HMAC (key, v) in the place of the 32 bytes v: four blocks.
 pub fn hmac_of(key: &[u8; 32], v: &mut [u8; 32])
-    requires { ⌜ (length (now key) ≡ 32) × (length (now v) ≡ 32) ⌝ }
+    requires { ⌜ Sizes (now key) (now v) ⌝ }
     ensures is { λ _. ⌜ costing 4 (now (v .exit)) ≡ hmac sha256 (ready (now (key .entry))) (now (v .entry)) ⌝ }
     ensures sized { λ _. ⌜ length (now (v .exit)) ≡ 32 ⌝ }
 {

@@ -10,7 +10,7 @@ ghost use Rattle.standard.specs.Strings.{ceiling, ifNull};
 ghost use Rattle.standard.specs.Metered.{return};
 ghost use Rattle.standard.specs.HmacDrbg.{update, outputTurns};
 ghost use Rattle.standard.specs.Sha256.{sha256};
-ghost use Rattle.drbg_hmac.specs.Keys.{ready, keyed, half, keyedFor, outputFor, drawnOut};
+ghost use Rattle.drbg_hmac.specs.Keys.{ready, Sizes, keyed, half, keyedFor, outputFor, drawnOut};
 
 // §10.1.2.2, steps 1 and 2 (separator 0) or 4 and 5 (separator 1).
 fn half_update<'a>(
@@ -21,11 +21,11 @@ fn half_update<'a>(
     second: &'a [u8],
     third: &'a [u8],
 ) -> u64
-    requires { ⌜ (length (now key) ≡ 32) × (length (now v) ≡ 32) ⌝ }
+    requires { ⌜ Sizes (now key) (now v) ⌝ }
     requires { ⌜ (length (now first) ≤ 1024) × (length (now second) ≤ 1024) × (length (now third) ≤ 1024) ⌝ }
     ensures is { λ r. ⌜ keyedFor r (now (key .exit)) (now (v .exit))
         ≡ half separator (now (first .entry) ++ (now (second .entry) ++ now (third .entry))) (keyed (now (key .entry)) (now (v .entry))) ⌝ }
-    ensures sized { λ _. ⌜ (length (now (key .exit)) ≡ 32) × (length (now (v .exit)) ≡ 32) ⌝ }
+    ensures sized { λ _. ⌜ Sizes (now (key .exit)) (now (v .exit)) ⌝ }
 {
     let mac = hmac::hmac_of_all(key, v, separator, first, second, third);
     let next = mac.bytes;
@@ -42,11 +42,11 @@ pub fn update_all<'a>(
     second: &'a [u8],
     third: &'a [u8],
 ) -> u64
-    requires { ⌜ (length (now key) ≡ 32) × (length (now v) ≡ 32) ⌝ }
+    requires { ⌜ Sizes (now key) (now v) ⌝ }
     requires { ⌜ (length (now first) ≤ 1024) × (length (now second) ≤ 1024) × (length (now third) ≤ 1024) ⌝ }
     ensures is { λ r. ⌜ keyedFor r (now (key .exit)) (now (v .exit))
         ≡ update sha256 (now (first .entry) ++ (now (second .entry) ++ now (third .entry))) (keyed (now (key .entry)) (now (v .entry))) ⌝ }
-    ensures sized { λ _. ⌜ (length (now (key .exit)) ≡ 32) × (length (now (v .exit)) ≡ 32) ⌝ }
+    ensures sized { λ _. ⌜ Sizes (now (key .exit)) (now (v .exit)) ⌝ }
 {
     let once = half_update(key, v, 0, first, second, third);
     let provided = first.len() + second.len() + third.len();
@@ -59,11 +59,12 @@ pub fn update_all<'a>(
 
 // §10.1.2.5, step 2
 pub fn refresh(key: &mut [u8; 32], v: &mut [u8; 32], additional: &[u8]) -> u64
-    requires { ⌜ (length (now key) ≡ 32) × (length (now v) ≡ 32) × (length (now additional) ≤ 1024) ⌝ }
+    requires { ⌜ Sizes (now key) (now v) ⌝ }
+    requires { ⌜ length (now additional) ≤ 1024 ⌝ }
     ensures is { λ r. ⌜ keyedFor r (now (key .exit)) (now (v .exit))
         ≡ (let u = keyed (now (key .entry)) (now (v .entry)) in
         ifNull (now (additional .entry)) (return u) (update sha256 (now (additional .entry)) u)) ⌝ }
-    ensures sized { λ _. ⌜ (length (now (key .exit)) ≡ 32) × (length (now (v .exit)) ≡ 32) ⌝ }
+    ensures sized { λ _. ⌜ Sizes (now (key .exit)) (now (v .exit)) ⌝ }
 {
     if additional.len() == 0 {
         return 0;
@@ -74,7 +75,8 @@ pub fn refresh(key: &mut [u8; 32], v: &mut [u8; 32], additional: &[u8]) -> u64
 
 // §10.1.2.5, steps 3 to 5: the lent output is filled in place.
 pub fn output_filled(key: &[u8; 32], v: &mut [u8; 32], out: &mut [u8]) -> u64
-    requires { ⌜ (length (now key) ≡ 32) × (length (now v) ≡ 32) × (length (now out) ≤ 65536) ⌝ }
+    requires { ⌜ Sizes (now key) (now v) ⌝ }
+    requires { ⌜ length (now out) ≤ 65536 ⌝ }
     ensures is { λ r. ⌜ outputFor r (now (out .exit)) (now (v .exit)) ≡ drawnOut
         (outputTurns sha256 (ready (now (key .entry))) (now (v .entry)) (ceiling (length (now (out .entry))) 32))
         (length (now (out .entry))) ⌝ }

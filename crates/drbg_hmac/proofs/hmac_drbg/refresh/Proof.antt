@@ -14,7 +14,7 @@ use Rattle.drbg_hmac.proofs.hmac_drbg.refresh.Tie as tie
 returns : tie.Need-returns
 returns c =
     let s = c .before .before in
-    (sym (rw (empty (s .args .additional .now) (c .if1 .taken), ifNull-nil)), (s .pre .0, s .pre .1))
+    (sym (rw (empty (s .args .additional .now) (c .if1 .taken), ifNull-nil)), s .pre .0)
 
 returns-2 : tie.Need-returns-2
 returns-2 c =
