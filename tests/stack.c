@@ -8,7 +8,6 @@
  * The last line is 'N passed, M failed'. `stack depths` prints only the depths, for bench/stack. */
 #include <stdint.h>
 #include <stdio.h>
-#include <stdlib.h>
 #include <string.h>
 
 #include "painted.h"

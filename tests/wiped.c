@@ -10,7 +10,6 @@
 #include <cpuid.h>
 #include <stdint.h>
 #include <stdio.h>
-#include <stdlib.h>
 #include <string.h>
 
 #include "painted.h"
