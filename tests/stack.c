@@ -14,13 +14,17 @@
 
 enum { LOCAL = 512 };
 
-/* A line of the table of ceilings has all calls of its name. */
+/* A line of the table of ceilings has all calls of its name. One of the lengths between leaves HMAC_DRBG's hash 56 to 63 bytes of its last
+ * block (33 stand behind the pad, before the strings), and one Hash_DRBG's (5 stand before them at an opening, 61 at a reseed, 56 at a
+ * draw), so that the length at the padding's end takes a block of its own. */
 static const struct call calls[] = {
     { "open", OPEN, 32, 16, 0, 0, 0 },
-    { "open", OPEN, 60, 16, 0, 0, 0 },
+    { "open", OPEN, 40, 16, 0, 0, 0 },
+    { "open", OPEN, 72, 16, 0, 0, 0 },
     { "open", OPEN, sizeof entropy, sizeof nonce, sizeof personalization, 0, 0 },
     { "reseed", RESEED, 32, 0, 0, 0, 0 },
     { "reseed", RESEED, 60, 0, 0, 0, 0 },
+    { "reseed", RESEED, 90, 0, 0, 0, 0 },
     { "reseed", RESEED, sizeof entropy, 0, 0, sizeof additional, 0 },
     { "draw", DRAW, 0, 0, 0, 0, 0 },
     { "draw", DRAW, 0, 0, 0, 0, 16 },
@@ -30,6 +34,7 @@ static const struct call calls[] = {
     { "draw with additional input", DRAW, 0, 0, 0, sizeof additional, sizeof output },
     { "fresh draw", FRESH_DRAW, 32, 0, 0, 0, 0 },
     { "fresh draw", FRESH_DRAW, 60, 0, 0, 1, 16 },
+    { "fresh draw", FRESH_DRAW, 90, 0, 0, 0, 16 },
     { "fresh draw", FRESH_DRAW, sizeof entropy, 0, 0, sizeof additional, sizeof output },
     { "inquire", INQUIRE, 0, 0, 0, 0, 0 },
     { "close", CLOSE, 0, 0, 0, 0, 0 },
