@@ -5,8 +5,9 @@ use Prim.Native.Nat.{ℕ, _+_, _-_, _/_, _%_, _≤_, _<_}
 use native.Mathlib.Numerals.{add-one}
 use native.Mathlib.Omega.{arith}
 use lib.ListN.{length, getD, take, drop, set, length-set, length-drop}
-use lib.Seq.{length-take-le, take-suc-set, take-suc}
+use lib.Seq.{paste, take-paste, take-all, length-take-le, take-suc-set, take-suc}
 use Rattle.standard.specs.Strings.{bytesOf}
+use Rattle.standard.proofs.Strings.{length-bytesOf}
 
 -- one more behind the first n
 pub take-more-set : (l : List ℕ) (n v : ℕ) → n < length l → take (n + 1) (set l n v) ≡ take n l ++ (v ∷ [])
@@ -18,11 +19,18 @@ behind l p n v h so-far = take-more-set l n v h ∙ ap (λ q. q ++ (v ∷ [])) s
 pub take-more : (l : List ℕ) (n : ℕ) → n < length l → take (n + 1) l ≡ take n l ++ (getD l n 0 ∷ [])
 take-more l n h = rw add-one (take-suc l n 0 h)
 
--- a word's four bytes behind the first n
+-- a word's four bytes
+pub word-bytes : (x : ℕ) → x / 16777216 % 256 ∷ x / 65536 % 256 ∷ x / 256 % 256 ∷ x % 256 ∷ [] ≡ bytesOf 4 x
+unfolding bytesOf
+word-bytes x =
+    let second : x / 65536 ≡ x / 256 / 256 = omega arith in
+    let first : x / 16777216 ≡ x / 256 / 256 / 256 = omega arith in
+    rw (first, second)
+
+-- and stored behind the first n
 pub word-stored : (l : List ℕ) (n x : ℕ) → n + 4 ≤ length l
     → take (n + 4) (set (set (set (set l n (x / 16777216 % 256)) (n + 1) (x / 65536 % 256)) (n + 2) (x / 256 % 256)) (n + 3) (x % 256))
     ≡ take n l ++ bytesOf 4 x
-unfolding bytesOf
 word-stored l n x h =
     let a = x / 16777216 % 256 in
     let b = x / 65536 % 256 in
@@ -34,11 +42,20 @@ word-stored l n x h =
     let h₁ : n + 1 < length (set l n a) = simp length-set (omega arith) in
     let h₂ : n + 1 + 1 < length (set (set l n a) (n + 1) b) = simp length-set (omega arith) in
     let h₃ : n + 1 + 1 + 1 < length (set (set (set l n a) (n + 1) b) (n + 1 + 1) c) = simp length-set (omega arith) in
-    let first : x / 16777216 ≡ x / 256 / 256 / 256 = omega arith in
-    let second : x / 65536 ≡ x / 256 / 256 = omega arith in
-    rw (e₄, e₃, e₂)
+    rw (e₄, e₃, e₂, ← word-bytes x)
     (behind _ _ (n + 1 + 1 + 1) d h₃ (behind _ _ (n + 1 + 1) c h₂ (behind _ _ (n + 1) b h₁ (take-more-set l n a (omega arith)))) ∙
-    simp (append-assoc, first, second))
+    simp append-assoc)
+
+-- or copied there
+pub word-copied : (out new b : List ℕ) (at x : ℕ) → at + 4 ≤ length out → b ≡ bytesOf 4 x → new ≡ paste out at b (length b)
+    → take (at + 4) new ≡ take at out ++ bytesOf 4 x
+word-copied out new b at x room b-is new-is =
+    let size : length b ≡ 4 = ap length b-is ∙ length-bytesOf 4 x in
+    let fits : 4 ≤ length b = omega arith in
+    let few : length b ≤ 4 = omega arith in
+    ap (take (at + 4)) (new-is ∙ ap (paste out at b) size) ∙
+    take-paste out at b 4 (omega arith) fits ∙
+    ap (λ p. take at out ++ p) (take-all 4 b few ∙ b-is)
 
 pub length-part : (s : List ℕ) (at n : ℕ) → at + n ≤ length s → length (take n (drop at s)) ≡ n
 length-part s at n h =

@@ -3,13 +3,13 @@ use crate::rounds::Eight;
 ghost use mathlib.Core.Path.{_≡_};
 ghost use mathlib.Core.List.{_++_};
 ghost use Prim.Native.Nat.{_+_, _≤_};
-ghost use lib.ListN.{take};
+ghost use lib.ListN.{length, take};
 ghost use Rattle.standard.specs.Strings.{bytesOf};
 ghost use Rattle.standard.specs.Hash.{digest};
 ghost use Rattle.standard.specs.Sha256.{sha256};
 ghost use Rattle.compression.specs.Values.{eightOf};
 
-// A word's four bytes, the highest first.
+// A word's four bytes, the highest first, behind those of the words before it.
 fn with_word(old: [u8; 32], at: usize, x: u32) -> [u8; 32]
     requires { ⌜ at + 4 ≤ 32 ⌝ }
     ensures { λ r. ⌜ take (at + 4) r ≡ take at old ++ bytesOf 4 x ⌝ }
@@ -33,4 +33,48 @@ pub fn bytes_of(s: Eight) -> [u8; 32]
     let f = with_word(e, 20, s.f);
     let g = with_word(f, 24, s.g);
     with_word(g, 28, s.h)
+}
+
+// A word's four bytes as an array of their own, which makes them one store where they are copied to.
+fn word_bytes(x: u32) -> [u8; 4]
+    ensures { λ r. ⌜ r ≡ bytesOf 4 x ⌝ }
+{
+    [
+        (x / 16777216 % 256) as u8,
+        (x / 65536 % 256) as u8,
+        (x / 256 % 256) as u8,
+        (x % 256) as u8,
+    ]
+}
+
+fn put_word(out: &mut [u8], at: usize, x: u32)
+    requires { ⌜ at + 4 ≤ length (now out) ⌝ }
+    ensures is { λ _. ⌜ take (at + 4) (now (out .exit)) ≡ take at (now (out .entry)) ++ bytesOf 4 x ⌝ }
+    ensures sized { λ _. ⌜ length (now (out .exit)) ≡ length (now (out .entry)) ⌝ }
+{
+    let b = word_bytes(x);
+    copies::copy(out, at, &b);
+}
+
+// The 32 bytes in a lent string, from `at` on.
+pub fn put(out: &mut [u8], at: usize, s: Eight)
+    requires { ⌜ at + 32 ≤ length (now out) ⌝ }
+    ensures is { λ _. ⌜ take (at + 32) (now (out .exit)) ≡ take at (now (out .entry)) ++ digest sha256 (eightOf s) ⌝ }
+    ensures sized { λ _. ⌜ length (now (out .exit)) ≡ length (now (out .entry)) ⌝ }
+{
+    put_word(out, at, s.a);
+    let b = at + 4;
+    put_word(out, b, s.b);
+    let c = b + 4;
+    put_word(out, c, s.c);
+    let d = c + 4;
+    put_word(out, d, s.d);
+    let e = d + 4;
+    put_word(out, e, s.e);
+    let f = e + 4;
+    put_word(out, f, s.f);
+    let g = f + 4;
+    put_word(out, g, s.g);
+    let h = g + 4;
+    put_word(out, h, s.h);
 }

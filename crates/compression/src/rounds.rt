@@ -23,7 +23,7 @@ pub struct Eight {
 }
 
 // §4.2.2
-const K: [u32; 64] = [
+pub const K: [u32; 64] = [
     0x428a2f98,
     0x71374491,
     0xb5c0fbcf,
@@ -148,7 +148,7 @@ fn turned_at(s: Eight, k: [u32; 64], w: [u32; 16], t: usize) -> Eight
 }
 
 // Two turns more: the compiler still puts the body of this one in the place of each call, but not that of four.
-fn two_turns(s: Eight, k: [u32; 64], w: [u32; 16], t: usize) -> Eight
+pub fn two_turns(s: Eight, k: [u32; 64], w: [u32; 16], t: usize) -> Eight
     requires { ⌜ t + 2 ≤ 64 ⌝ }
     ensures { λ r. ⌜ Turned sha256 2 t k w (eightOf s) (eightOf r) ⌝ }
 {
@@ -221,7 +221,7 @@ fn all_turns(from: Eight, k: [u32; 64], w16: [u32; 16]) -> Eight
 }
 
 // Step 4.
-fn sums(s: Eight, v: Eight) -> Eight
+pub fn sums(s: Eight, v: Eight) -> Eight
     ensures { λ r. ⌜ eightOf r ≡ added sha256 (eightOf s) (eightOf v) ⌝ }
 {
     Eight {

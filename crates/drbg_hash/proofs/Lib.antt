@@ -1,4 +1,3 @@
 -- What the proofs of several functions share.
 pub mod Derivations
-pub mod Turns
 pub mod Standing

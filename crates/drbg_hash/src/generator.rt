@@ -65,7 +65,7 @@ pub fn hash_drawn(
     let begun = hash_drbg::refresh(first, additional);
     // V, and the bit 1 that its padding begins with
     let mut data = sums::limbs_of(*first, 128);
-    let output = hash_drbg::hashgen_filled(&mut data, out);
+    let output = hashgen::filled(&mut data, out);
     let last = hash_drbg::step(first, second, counter);
     begun + output + last
 }

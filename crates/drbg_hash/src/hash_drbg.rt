@@ -3,17 +3,14 @@ use crate::hash_df;
 use compression::digest;
 use compression::rounds;
 use drbg_shared::joined;
-use drbg_shared::output;
 ghost use mathlib.Core.Path.{_≡_};
-ghost use mathlib.Core.List.{[], _∷_, _++_};
+ghost use mathlib.Core.List.{_∷_, _++_};
 ghost use Prim.Native.Nat.{_≤_};
 ghost use lib.ListN.{length};
-ghost use Rattle.standard.specs.Strings.{ceiling};
-ghost use Rattle.standard.specs.Hash.{compressed, digest, hash};
-ghost use Rattle.standard.specs.HashDrbg.{seeded, refreshed, hashgen, hashgenTurns};
+ghost use Rattle.standard.specs.Hash.{hash};
+ghost use Rattle.standard.specs.HashDrbg.{seeded, refreshed};
 ghost use Rattle.standard.specs.Sha256.{sha256};
 ghost use Rattle.drbg_shared.specs.Costs.{costing};
-ghost use Rattle.sums.specs.Limbs.{stringOf, valueIn, Marked};
 ghost use Rattle.drbg_hash.specs.Seeds.{seedFor, constantOf, stateWith};
 
 // §10.1.1.2 and 10.1.1.3, step 4: C from V, in its place.
@@ -46,45 +43,6 @@ pub fn seed_from<'a>(
     let value = hash_df::derive(v, mark, old, first, second, third);
     let constant = put_constant(c, v);
     value + constant
-}
-
-// V and a bit 1 as limbs are V's only block but for its end: zeros and 440, the length in bits.
-fn only_block(limbs: [u64; 7]) -> [u8; 64]
-    ensures { λ r. ⌜ r ≡ stringOf limbs ++ (0 ∷ 0 ∷ 0 ∷ 0 ∷ 0 ∷ 0 ∷ 1 ∷ 184 ∷ []) ⌝ }
-{
-    let mut block = [0u8; 64];
-    block[62] = 1;
-    block[63] = 184;
-    sums::put_limbs(&mut block, limbs);
-    block
-}
-
-// The hash of a padded message that is one block.
-fn hash_of_block(block: [u8; 64]) -> [u8; 32]
-    ensures { λ r. ⌜ r ≡ digest sha256 (compressed sha256 (sha256 .initial) block) ⌝ }
-{
-    digest::bytes_of(rounds::compress(rounds::initial(), &block))
-}
-
-// §10.1.1.4, Hashgen: the lent output is filled in place, and the lent data moves on. The blocks are handed back.
-pub fn hashgen_filled(next: &mut [u64; 7], out: &mut [u8]) -> u64
-    requires { ⌜ (length (now next) ≡ 7) × (length (now out) ≤ 65536) × Marked (now next) ⌝ }
-    ensures is { λ r. ⌜ costing r (now (out .exit)) ≡ hashgen sha256 (length (now (out .entry))) (valueIn (now (next .entry))) ⌝ }
-    ensures moved { λ _. ⌜ valueIn (now (next .exit))
-        ≡ hashgenTurns sha256 (valueIn (now (next .entry))) (ceiling (length (now (out .entry))) 32) .value .1 ⌝ }
-{
-    // 1, before the byte behind V
-    let one = [0, 0, 0, 0, 0, 0, 256];
-    let mut at = 0;
-    while at < out.len() {
-        let block = only_block(*next);
-        let further = sums::plus(*next, one);
-        *next = further;
-        let w = hash_of_block(block);
-        output::store(out, at, w);
-        at += 32;
-    }
-    (at / 32) as u64
 }
 
 // §10.1.1.4, step 2: V in its place.

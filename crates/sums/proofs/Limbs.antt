@@ -12,7 +12,7 @@ use Rattle.compression.proofs.Stores.{take-more, take-more-set}
 use Rattle.sums.specs.Limbs.{stringOf, valueIn, Marked}
 use Rattle.copies.proofs.Pasted.{pasted}
 
-stringOf-append : (l m : List ℕ) → stringOf (l ++ m) ≡ stringOf l ++ stringOf m
+pub stringOf-append : (l m : List ℕ) → stringOf (l ++ m) ≡ stringOf l ++ stringOf m
 unfolding stringOf
 stringOf-append [] m = refl
 stringOf-append (x ∷ l) m = ap (λ s. bytesOf 8 x ++ s) (stringOf-append l m) ∙ sym (append-assoc (bytesOf 8 x) (stringOf l) (stringOf m))
@@ -40,7 +40,7 @@ module _ (l : List ℕ) (i : ℕ) (inside : i < length l) where
   pub stringOf-more : stringOf (take (i + 1) l) ≡ stringOf (take i l) ++ bytesOf 8 (getD l i 0)
   stringOf-more = ap stringOf (take-more l i inside) ∙ stringOf-behind (take i l) (getD l i 0)
 
-  length-first : length (stringOf (take i l)) ≡ 8 * i
+  pub length-first : length (stringOf (take i l)) ≡ 8 * i
   length-first = length-stringOf (take i l) ∙ ap (λ n. 8 * n) (length-take-le i l (omega arith))
 
   -- the number that one limb more makes

@@ -15,8 +15,8 @@ use borrow.Author.Needs.{needs}
 use Rattle.drbg_hash.proofs.generator.hash_drawn.Statement.{statement}
 use Rattle.drbg_hash.proofs.generator.hash_drawn.Tie as tie
 
-hashgen-filled-requires : tie.Need-hashgen-filled-requires
-hashgen-filled-requires c κs =
+filled-requires : tie.Need-filled-requires
+filled-requires c κs =
     let limbs = c .before .before in
     let begun = limbs .before .before in
     let start = begun .before .before .before .before in
@@ -25,7 +25,7 @@ hashgen-filled-requires c κs =
 
 -- the places before the step: the output is filled, V is taken as limbs, V is refreshed, nothing is done
 module _ (c : tie.After-step) where
-  abbrev output : tie.After-hashgen-filled
+  abbrev output : tie.After-filled
   output = c .before .before .before .before
 
   abbrev limbs : tie.After-limbs-of
@@ -46,9 +46,9 @@ module _ (c : tie.After-step) where
   refreshed-is : costing (begun .refresh .result) v ≡ refreshed sha256 (start .args .additional .now) (start .args .first .now)
   refreshed-is = begun .refresh .ensures
 
-  filled-is : costing (output .hashgen-filled .result) (output .hashgen-filled .last .1 .0) ≡ hashgen sha256 n v
+  filled-is : costing (output .filled .result) (output .filled .last .1 .0) ≡ hashgen sha256 n v
   filled-is =
-      output .hashgen-filled .ensures .0 ∙
+      output .filled .ensures .0 ∙
       ap (hashgen sha256 n) (value-behind (limbs .limbs-of .result) v 128 (omega (arith, limbs)) (limbs .limbs-of .ensures))
 
   stepped-is : costing (c .step .result) (c .step .last .0) ≡ stateWith v (start .args .second .now) (start .args .counter)
@@ -60,7 +60,7 @@ returns c =
     drawn-stands (a .first .now) (a .second .now) (a .counter) (n c) (a .additional .now) (v c) _ _ _ _ _ (refreshed-is c) (filled-is c)
     (stepped-is c) (start c .pre .0) (start c .pre .1 .0) (start c .pre .1 .1)
 
-few : (c : tie.After-step) → begun c .refresh .result + output c .hashgen-filled .result + c .step .result ≤ 8288
+few : (c : tie.After-step) → begun c .refresh .result + output c .filled .result + c .step .result ≤ 8288
 few c = returns c .1 .0
 
 add-result : tie.Need-add-result
@@ -72,5 +72,5 @@ add-result-2 c = record { fits = omega (arith, few c) }
 pub hash-drawn-spec : {M : Type 1} → statement M
 hash-drawn-spec =
     tie.close
-    (tie.spec (λ c κs. search needs) (λ c κs. search needs) hashgen-filled-requires (λ c κs. search needs) add-result add-result-2
+    (tie.spec (λ c κs. search needs) (λ c κs. search needs) filled-requires (λ c κs. search needs) add-result add-result-2
     (λ c. search needs) returns)

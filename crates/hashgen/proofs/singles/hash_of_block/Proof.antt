@@ -3,8 +3,8 @@ use mathlib.Core.Path.{ap, _∙_}
 use Rattle.standard.specs.Hash.{compressed, digest}
 use Rattle.standard.specs.Sha256.{sha256}
 use borrow.Author.Needs.{needs}
-use Rattle.drbg_hash.proofs.hash_drbg.hash_of_block.Statement.{statement}
-use Rattle.drbg_hash.proofs.hash_drbg.hash_of_block.Tie as tie
+use Rattle.hashgen.proofs.singles.hash_of_block.Statement.{statement}
+use Rattle.hashgen.proofs.singles.hash_of_block.Tie as tie
 
 returns : tie.Need-returns
 returns c =

@@ -1,7 +1,7 @@
 -- The block's end stands from the start. Assumes nothing.
 use borrow.Author.Needs.{needs}
-use Rattle.drbg_hash.proofs.hash_drbg.only_block.Statement.{statement}
-use Rattle.drbg_hash.proofs.hash_drbg.only_block.Tie as tie
+use Rattle.hashgen.proofs.singles.only_block.Statement.{statement}
+use Rattle.hashgen.proofs.singles.only_block.Tie as tie
 
 returns : tie.Need-returns
 returns c = c .put-limbs .ensures .0

@@ -1,0 +1,2 @@
+-- What the contracts of this crate cite, over the definitions of `standard`.
+pub mod Turns
