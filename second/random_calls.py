@@ -17,7 +17,8 @@ BOTH = (1, 2)
 CLAUSES = range(19)     # of soundness, each broken by `spoiled`: of a used slot up to 11, of a free one from 12 on
 FREE = 12
 
-LENGTHS = (0, 1, 16, 31, 32, 33, 55, 56, 63, 64, 65, 1023, 1024, 1025)
+# both sides of a hash's end, and of one, two and three groups of four hashes
+LENGTHS = (0, 1, 16, 31, 32, 33, 55, 56, 63, 64, 65, 96, 127, 128, 129, 160, 224, 255, 256, 257, 383, 384, 385, 1023, 1024, 1025)
 LONG = (65535, 65536, 65537)
 ENTROPY = (0, 13, 14, 15, 16, 23, 24, 31, 32, 33, 55, 56, 64, 1023, 1024, 1025, 65536, 65537)
 NONCE = (0, 6, 7, 8, 9, 11, 12, 13, 15, 16, 17, 55, 56, 63, 64, 65, 1024)
@@ -124,14 +125,17 @@ def unsound_numbers():
 
 
 def carries():
-    """Hash_DRBG draws of four blocks on a V whose lowest bytes are FF, one of them or more: whatever V is cut into, a carry goes from
-    each part to the next. It comes at V + 1, or where the last byte is FE at V + 2; as (table, call)."""
+    """Hash_DRBG draws on a V whose lowest bytes are FF, one of them or more, but the last, which may be less: whatever V is cut into, a
+    carry goes from each part to the next. In a draw of four blocks, hashed one by one, it comes at V + 1 or V + 2; in one of two groups
+    of four and two more blocks at each step, from V + 1 to V + 9; as (table, call)."""
     one = opened(HASH_DRBG)
     for count in range(1, STATE_BYTES + 1):
-        for last in (0xFF, 0xFE):
-            value = filler(STATE_BYTES - count, 1) + b"\xff" * (count - 1) + bytes([last])
-            for additional in (b"", filler(1)):
-                yield in_first_slot(one, first=value), draw(FIRST_HANDLE, 97, additional=additional)
+        for step in range(1, 10):
+            value = filler(STATE_BYTES - count, 1) + b"\xff" * (count - 1) + bytes([0x100 - step])
+            yield in_first_slot(one, first=value), draw(FIRST_HANDLE, 289)
+            if step <= 2:
+                for additional in (b"", filler(1)):
+                    yield in_first_slot(one, first=value), draw(FIRST_HANDLE, 97, additional=additional)
 
 
 def one_or_two(faults):

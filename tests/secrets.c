@@ -24,7 +24,7 @@
 #define LEAK 0
 #endif
 
-enum { INTERVAL = 6, LEAST_STRENGTH = 112 };
+enum { INTERVAL = 8, LEAST_STRENGTH = 112 };
 
 static uint8_t table[PURANGSA_TABLE_LENGTH], output[PURANGSA_MOST_REQUEST + 1];
 static uint8_t entropy[PURANGSA_MOST_ENTROPY], nonce[PURANGSA_MOST_NONCE], personalization[PURANGSA_MOST_PERSONALIZATION];
@@ -156,7 +156,7 @@ static void inquire(size_t t, uint64_t handle, uint64_t expected)
 /* Both sides of a block's end, of a hash's and of the limits, for each string. */
 static const size_t lengths[] = { 16, 32, 55, 56, 64, 65, 119, 120, 1024 };
 enum { LENGTHS = sizeof lengths / sizeof lengths[0] };
-static const size_t requests[] = { 0, 1, 16, 32, 33, 1024 };
+static const size_t requests[] = { 0, 1, 16, 32, 33, 128, 160, 1024 };
 enum { REQUESTS = sizeof requests / sizeof requests[0] };
 
 static uint64_t opened(size_t i)

@@ -48,6 +48,7 @@ static const struct call calls[] = {
     { "reseed with additional input", RESEED, 200, 0, 0, 200, 0 },
     { "draw of 0 bytes", DRAW, 0, 0, 0, 0, 0 },
     { "draw of 16 bytes", DRAW, 0, 0, 0, 0, 16 },
+    { "draw of 128 bytes", DRAW, 0, 0, 0, 0, 128 },
     { "draw of 1,000 bytes", DRAW, 0, 0, 0, 0, 1000 },
     { "draw of 16 bytes with additional input", DRAW, 0, 0, 0, 200, 16 },
     { "draw of 1,000 bytes with additional input", DRAW, 0, 0, 0, 40, 1000 },
