@@ -6,7 +6,7 @@ use mathlib.Core.Path.{sym, _∙_}
 use mathlib.Core.List.{[]}
 use Prim.Native.Nat.{ℕ}
 use Rattle.table.specs.OnBytes.{Same}
-use Rattle.table.proofs.Determined.{same-of}
+use Rattle.calls.proofs.Determined.{same-of}
 use Rattle.capi.specs.Left.{leaves}
 use Rattle.capi.proofs.purangsa_open.Reads as open-call
 use Rattle.capi.proofs.purangsa_reseed.Reads as reseed

@@ -1,7 +1,6 @@
 // The library that C and Rust link: the six calls on a table in the caller's 2,148 bytes, and a test of them. include/purangsa.h says what
 // each promises.
 use table::answers::Told;
-use table::calls;
 ghost use mathlib.Core.Path.{_≡_};
 ghost use mathlib.Core.List.{[]};
 ghost use mathlib.Core.Bool.{not};

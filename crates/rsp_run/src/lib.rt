@@ -2,7 +2,6 @@
 use same::same;
 use slots::sizes;
 use table::answers::Told;
-use table::calls;
 ghost use Prim.Native.Nat.{ℕ, _≤_};
 ghost use mathlib.Core.Path.{_≡_};
 ghost use mathlib.Core.List.{List};

@@ -1,6 +1,5 @@
 // A case's steps, one after the other, each where the one before it ended.
 use crate::field;
-use table::calls;
 ghost use Prim.Native.Nat.{_≤_, _<_};
 ghost use lib.ListN.{length};
 ghost use Rattle.rsp_run.specs.Walk.{StepsAt, LeavesAt};

@@ -8,7 +8,6 @@ use book::string;
 use libc::STDOUT_FILENO;
 use slots::sizes;
 use table::answers::Told;
-use table::calls;
 ghost use mathlib.Core.Path.{_≡_};
 ghost use mathlib.Core.List.{_++_};
 ghost use Prim.Native.Nat.{_+_, _≤_, _<_};

@@ -1,7 +1,6 @@
 // A case of each kind, run from the fresh table. A draw is one of 128 bytes, and the first generator has handle 16.
 use same::same;
 use slots::sizes;
-use table::calls;
 ghost use mathlib.Core.Path.{_≡_};
 ghost use Rattle.self_test.specs.Cases as kinds;
 ghost use Rattle.self_test.specs.Cases.{holds};

@@ -1,0 +1,2 @@
+-- A law over all six calls.
+pub mod Determined
