@@ -14,13 +14,14 @@ returns c =
     let start = c .before .before .before .before .before .before .before .before .before .before .before in
     let next = start .args .next .now in
     let out = start .args .out .now in
+    let moved = singles .last .0 in
+    let full = singles .last .1 .0 in
     let turns = singles .result in
-    let after : After (valueIn next) turns (singles .last .0) (singles .last .1 .0) =
+    let after : After (valueIn next) turns moved full =
     singles .ensures .0 (valueIn next) (groups .ensures .0 (valueIn next) (after-none next out (start .pre .0) (start .pre .2))) in
     let sized = singles .ensures .1 .1 in (
-      hashgen-is (valueIn next) (singles .last .0) (singles .last .1 .0) (length out) turns (search needs) (search needs) (search needs) after,
-      data-is (valueIn next) (singles .last .0) (singles .last .1 .0) (length out) turns (search needs) (search needs) (search needs) after
-          (sized .0),
+      hashgen-is (valueIn next) moved full (length out) turns (search needs) (search needs) (search needs) after,
+      data-is (valueIn next) moved full (length out) turns (search needs) (search needs) (search needs) after (sized .0),
     )
 
 pub filled-spec : {M : Type 1} → statement M

@@ -11,7 +11,8 @@ returns c =
     let laid = c .before .before .before .before .before .before .put-blocks in
     let turn = c .before .before .before .before .before .before .before .before .before .before .args .turn in (
       λ v after.
-          let hashes : HashesFrom v turn (hashed .result) = λ l low. hashed .ensures l low _ (laid .ensures .0 v turn (after .ready) l low) in
+          let blocks = laid .ensures .0 v turn (after .ready) in
+          let hashes : HashesFrom v turn (hashed .result) = λ l low. hashed .ensures l low _ (blocks l low) in
           record { ready = laid .ensures .1 .0 v turn (after .ready); filled = put .ensures .0 v hashes (after .filled) },
       (search needs, search needs),
     )

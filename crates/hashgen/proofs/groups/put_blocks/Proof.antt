@@ -35,7 +35,8 @@ loop-again c =
     let put = c .before .before .put-words in
     let l = c .before .before .before .before .before .before .loop in
     let old = take (16 * l .l) (l .words) in
-    let room : 16 * l .l + 16 ≤ length (l .words) = omega arith in (
+    let room : 16 * l .l + 16 ≤ length (l .words) = omega arith in
+    let size = put .ensures .1 ∙ sym (l .inv .1) in (
       search needs,
       put .ensures .1,
       search needs,
@@ -44,7 +45,7 @@ loop-again c =
           let here = n + l .l in
           let next : here + 1 ≡ n + (l .l + 1) = omega arith in
           let block = padded-55 (turnData v here) (stringOf (l .next)) (so-far .1) in (
-            lane-filled (l .words) (put .last .0) (λ j. schedule sha256 (turnBlock v (n + j)) 16) (l .l) room (put .ensures .1 ∙ sym (l .inv .1))
+            lane-filled (l .words) (put .last .0) (λ j. schedule sha256 (turnBlock v (n + j)) 16) (l .l) room size
                 (put .ensures .0 ∙ ap (λ b. old ++ schedule sha256 b 16) block) (so-far .0),
             subst (λ k. Ready v k (c .one-more .result)) next (c .one-more .ensures v here (so-far .1)),
           ),

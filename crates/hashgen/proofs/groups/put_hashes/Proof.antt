@@ -33,6 +33,7 @@ loop-again c =
     let l = start .loop in
     let a = start .before .before .args in
     let n = a .turn + l .i in
+    let w = digest sha256 (eightOf (getD (a .t3) (l .i) noEight)) in
     let new = put .last .0 in
     let size : length new ≡ length (l .out) = put .ensures .1 in
     let next : n + 1 ≡ a .turn + (l .i + 1) = omega arith in
@@ -41,8 +42,8 @@ loop-again c =
       search needs,
       λ v hashes filled.
           subst (λ k. Filled v k new) next
-          (filled-put v n (l .out) new (digest sha256 (eightOf (getD (a .t3) (l .i) noEight))) (ap (digest sha256) (hashes (l .i) (omega arith)))
-          (l .inv .2 v hashes filled) size room (put .ensures .0)),
+          (filled-put v n (l .out) new w (ap (digest sha256) (hashes (l .i) (omega arith))) (l .inv .2 v hashes filled) size room
+          (put .ensures .0)),
     )
 
 returns : tie.Need-returns Inv-loop μ-loop

@@ -25,9 +25,10 @@ abbrev μ-loop : tie.MeasureT-loop
 loop-holds : tie.Need-loop-holds Inv-loop μ-loop
 unfolding schedule
 loop-holds c =
+    let words = c .args .words .now in
     let from = 16 * c .args .l in
     let none : from + 2 * 0 ≡ from = omega arith in
-    (search needs, search needs, search needs, ap (λ n. take n (c .args .words .now)) none ∙ sym (append-nil (take from (c .args .words .now))))
+    (search needs, search needs, search needs, ap (λ n. take n words) none ∙ sym (append-nil (take from words)))
 
 loop-again : tie.Need-loop-again Inv-loop μ-loop
 loop-again c =
