@@ -6,6 +6,8 @@
 
 /* crates/bench_bare: a slice is a pointer and a length */
 uint32_t purangsa_bare(const uint8_t *text, size_t length);
+/* crates/bench_lanes */
+uint32_t purangsa_lanes(const uint8_t *text, size_t length);
 
 /* A source of draws. All of them are opened on the same entropy and nonce, with no personalization, so that all draw the
  * same bytes. A draw gives the blocks that it reports, 0 where it reports none, and is of `most` bytes at most. */

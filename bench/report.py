@@ -10,7 +10,7 @@ from rows import BESIDE, LIBRARY, MECHANISMS, MEMSET, WIPE, rows_in
 DOCS = pathlib.Path(__file__).resolve().parent.parent / "docs"
 BEGINS = "<!-- bench/run writes what stands from here -->\n"
 ENDS = "<!-- to here -->\n"
-PARTS = (LIBRARY, "draw by itself", "compression", WIPE, "book")
+PARTS = (LIBRARY, "draw by itself", "compression", "lanes", WIPE, "book")
 HEAD = ("Nanoseconds for one", "beside", "ours", "theirs", "ratio", "median", "most")
 
 
@@ -23,6 +23,8 @@ def place(row):
 def name_of(row):
     if row.of == "compression":
         return "compression"
+    if row.of == "lanes":
+        return "compression, four at a time in lanes"
     if row.of == WIPE:
         return f"wipe of {row.length:,} bytes, and the registers"
     if row.of == "book":

@@ -11,9 +11,9 @@ MEMSET = "memset of as many bytes"      # which the wipe stands beside
 
 
 class Row(NamedTuple):
-    of: str             # the library, the draw by itself, one compression, the wipe, a book's block
-    mechanism: str      # empty for the compression and the wipe
-    length: int         # of a draw or the wipe in bytes, of a book in records; 0 for the compression
+    of: str             # the library, the draw by itself, one compression, one in lanes, the wipe, a book's block
+    mechanism: str      # empty for the compressions and the wipe
+    length: int         # of a draw or the wipe in bytes, of a book in records; 0 for a compression
     beside: str
     ours: float         # nanoseconds, the least
     theirs: float

@@ -1,12 +1,14 @@
--- Arrays that stores fill from the front, and a part of a string. Assumes nothing.
+-- Arrays that stores fill from the front, and parts of a string. Assumes nothing.
 use mathlib.Core.Path.{_≡_, ap, _∙_}
 use mathlib.Core.List.{List, [], _∷_, _++_, append-assoc}
-use Prim.Native.Nat.{ℕ, _+_, _-_, _/_, _%_, _≤_, _<_}
+use Prim.Native.Nat.{ℕ, _+_, _-_, _*_, _/_, _%_, _≤_, _<_}
 use native.Mathlib.Numerals.{add-one}
 use native.Mathlib.Omega.{arith}
 use lib.ListN.{length, getD, take, drop, set, length-set, length-drop}
 use lib.Seq.{paste, take-paste, take-all, length-take-le, take-suc-set, take-suc}
 use Rattle.standard.specs.Strings.{bytesOf}
+use Rattle.standard.specs.Hash.{blockAt}
+use Rattle.standard.specs.Sha256.{sha256}
 use Rattle.standard.proofs.Strings.{length-bytesOf}
 
 -- one more behind the first n
@@ -61,3 +63,15 @@ pub length-part : (s : List ℕ) (at n : ℕ) → at + n ≤ length s → length
 length-part s at n h =
     let inside : n ≤ length (drop at s) = simp length-drop (omega arith) in
     length-take-le n (drop at s) inside
+
+-- a whole block of a text, cut out from its first byte to its last
+module _ (text : List ℕ) (i : ℕ) where
+  cut : 64 * i + 64 - 64 * i ≡ 64
+  cut = omega arith
+
+  pub block-cut : take (64 * i + 64 - 64 * i) (drop (64 * i) text) ≡ blockAt sha256 text i
+  unfolding blockAt
+  block-cut = ap (λ n. take n (drop (64 * i) text)) cut
+
+  pub length-cut : 64 * i + 64 ≤ length text → length (take (64 * i + 64 - 64 * i) (drop (64 * i) text)) ≡ 64
+  length-cut room = rw cut (length-part text (64 * i) 64 room)

@@ -1,23 +1,16 @@
 -- At each i the words are those after the first i blocks. Assumes nothing.
-use Prim.Native.Nat.{ℕ, _+_, _-_, _*_, _/_, _≤_}
+use Prim.Native.Nat.{_-_, _/_, _≤_}
 use mathlib.Core.Path.{_≡_, sym, ap, ap₂, _∙_}
-use mathlib.Core.List.{List}
 use native.Mathlib.Omega.{arith}
-use lib.ListN.{length, take, drop}
-use Rattle.standard.specs.Hash.{compressed, absorbed, blockAt}
+use lib.ListN.{length}
+use Rattle.standard.specs.Hash.{compressed, absorbed}
 use Rattle.standard.specs.Sha256.{sha256}
 use Rattle.standard.proofs.Hash.{absorbed-more}
 use Rattle.compression.specs.Values.{eightOf}
-use Rattle.compression.proofs.Stores.{length-part}
+use Rattle.compression.proofs.Stores.{block-cut, length-cut}
 use borrow.Author.Needs.{needs}
 use Rattle.bench_bare.proofs.purangsa_bare.Statement.{statement}
 use Rattle.bench_bare.proofs.purangsa_bare.Tie as tie
-
-part : (text : List ℕ) (i : ℕ) → take (64 * i + 64 - 64 * i) (drop (64 * i) text) ≡ blockAt sha256 text i
-unfolding blockAt
-part text i =
-    let size : 64 * i + 64 - 64 * i ≡ 64 = omega arith in
-    ap (λ n. take n (drop (64 * i) text)) size
 
 abbrev Inv-loop : tie.InvT-loop
 Inv-loop text blocks s₀ i₀ s i = (i ≤ blocks) × (eightOf s ≡ absorbed sha256 text i (sha256 .initial) .value)
@@ -32,10 +25,7 @@ loop-holds c = (search needs, c .initial .ensures)
 compress-requires : tie.Need-compress-requires Inv-loop μ-loop
 compress-requires c κs =
     let head = c .before .before in
-    let i = head .loop .i in
-    let text = head .before .before .before .args .text .now in
-    let size : 64 * i + 64 - 64 * i ≡ 64 = omega arith in
-    rw size (length-part text (64 * i) 64 (omega arith))
+    length-cut (head .before .before .before .args .text .now) (head .loop .i) (omega arith)
 
 loop-again : tie.Need-loop-again Inv-loop μ-loop
 loop-again c =
@@ -44,7 +34,7 @@ loop-again c =
     let text = head .before .before .before .args .text .now in (
       search needs,
       c .compress .ensures ∙
-          ap₂ (compressed sha256) (l .inv .1) (part text (l .i)) ∙
+          ap₂ (compressed sha256) (l .inv .1) (block-cut text (l .i)) ∙
           sym (absorbed-more sha256 text (l .i) (sha256 .initial)),
     )
 
