@@ -1,12 +1,12 @@
 -- One turn more of Hashgen: its data, and its hash in the output. Assumes nothing.
-use mathlib.Core.Path.{_≡_, refl, sym, ap, ap₂, _∙_}
+use mathlib.Core.Path.{_≡_, sym, ap, ap₂, _∙_}
 use mathlib.Core.List.{List, [], _∷_, _++_}
 use Prim.Native.Nat.{ℕ, _+_, _-_, _*_, _≤_, _<_, min}
 use native.Mathlib.Nat.{add-zero}
 use native.Mathlib.Numerals.{add-one}
 use native.Mathlib.Omega.{arith}
 use lib.Dec.{lit<}
-use lib.ListN.{length, take, length-append}
+use lib.ListN.{length, take}
 use lib.Seq.{paste, take-all, take-nil}
 use Rattle.standard.specs.Strings.{bytesOf, numberOf, ceiling}
 use Rattle.standard.specs.Hash.{hash, digest, compressed}

@@ -103,7 +103,7 @@ fn some_turns(next: &mut [u64; 7], out: &mut [u8], turn: usize) -> usize
 pub fn filled(next: &mut [u64; 7], out: &mut [u8]) -> usize
     requires { ⌜ (length (now next) ≡ 7) × (length (now out) ≤ 65536) ⌝ }
     ensures is { λ r. ⌜ Onward 0 r (now (next .entry)) (now (out .entry)) (now (next .exit)) (now (out .exit)) ⌝ }
-    ensures within { λ r. ⌜ 32 * r ≤ length (now (out .entry)) ⌝ }
+    ensures within { λ r. ⌜ (32 * r ≤ length (now (out .entry))) × (length (now (out .entry)) < 32 * (r + 4)) ⌝ }
     ensures sized { λ _. ⌜ (length (now (next .exit)) ≡ 7) × (length (now (out .exit)) ≡ length (now (out .entry))) ⌝ }
 {
     let mut turn = 0;

@@ -26,7 +26,7 @@ loop-again c =
 returns : tie.Need-returns Inv-loop μ-loop
 returns c =
     let l = c .before .loop in
-    (l .inv .3, (l .inv .0, (l .inv .2, l .inv .1)))
+    (l .inv .3, ((l .inv .0, search needs), (l .inv .2, l .inv .1)))
 
 pub filled-spec : {M : Type 1} → statement M
 filled-spec =
