@@ -1,15 +1,16 @@
 -- Arrays that stores fill from the front, and parts of a string. Assumes nothing.
-use mathlib.Core.Path.{_≡_, ap, _∙_}
+use mathlib.Core.Path.{_≡_, ap, ap₂, _∙_}
 use mathlib.Core.List.{List, [], _∷_, _++_, append-assoc}
 use Prim.Native.Nat.{ℕ, _+_, _-_, _*_, _/_, _%_, _≤_, _<_}
 use native.Mathlib.Numerals.{add-one}
 use native.Mathlib.Omega.{arith}
-use lib.ListN.{length, getD, take, drop, set, length-set, length-drop}
-use lib.Seq.{paste, take-paste, take-all, length-take-le, take-suc-set, take-suc}
+use lib.ListN.{length, getD, take, drop, set, length-append, length-set, length-drop}
+use lib.Seq.{paste, length-take-le, take-suc-set, take-suc}
 use Rattle.standard.specs.Strings.{bytesOf}
 use Rattle.standard.specs.Hash.{blockAt}
 use Rattle.standard.specs.Sha256.{sha256}
 use Rattle.standard.proofs.Strings.{length-bytesOf}
+use Rattle.copies.proofs.Pasted.{paste-join}
 
 -- one more behind the first n
 pub take-more-set : (l : List ℕ) (n v : ℕ) → n < length l → take (n + 1) (set l n v) ≡ take n l ++ (v ∷ [])
@@ -48,16 +49,23 @@ word-stored l n x h =
     (behind _ _ (n + 1 + 1 + 1) d h₃ (behind _ _ (n + 1 + 1) c h₂ (behind _ _ (n + 1) b h₁ (take-more-set l n a (omega arith)))) ∙
     simp append-assoc)
 
--- or copied there
-pub word-copied : (out new b : List ℕ) (at x : ℕ) → at + 4 ≤ length out → b ≡ bytesOf 4 x → new ≡ paste out at b (length b)
-    → take (at + 4) new ≡ take at out ++ bytesOf 4 x
-word-copied out new b at x room b-is new-is =
-    let size : length b ≡ 4 = ap length b-is ∙ length-bytesOf 4 x in
-    let fits : 4 ≤ length b = omega arith in
-    let few : length b ≤ 4 = omega arith in
-    ap (take (at + 4)) (new-is ∙ ap (paste out at b) size) ∙
-    take-paste out at b 4 (omega arith) fits ∙
-    ap (λ p. take at out ++ p) (take-all 4 b few ∙ b-is)
+-- e is d with the m bytes of s put over its own, from `at` on
+pub record Put (d : List ℕ) (at : ℕ) (s : List ℕ) (m : ℕ) (e : List ℕ) : Type 0 where
+  pub is : e ≡ paste d at s m
+  pub sized : length s ≡ m
+
+-- and one word more
+pub word-put : {d e s : List ℕ} {at m : ℕ} (f : List ℕ) (x : ℕ) → at + m + 4 ≤ length d → Put d at s m e
+    → f ≡ paste e (at + m) (bytesOf 4 x) 4 → Put d at (s ++ bytesOf 4 x) (m + 4) f
+word-put {d} {e} {s} {at} {m} f x room before put =
+    let four = length-bytesOf 4 x in
+    record {
+      is =
+          put ∙
+          ap (λ u. paste u (at + m) (bytesOf 4 x) 4) (before .is) ∙
+          paste-join d s at m (before .sized) (bytesOf 4 x) 4 room four;
+      sized = length-append s (bytesOf 4 x) ∙ ap₂ _+_ (before .sized) four;
+    }
 
 pub length-part : (s : List ℕ) (at n : ℕ) → at + n ≤ length s → length (take n (drop at s)) ≡ n
 length-part s at n h =

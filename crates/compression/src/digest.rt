@@ -4,6 +4,7 @@ ghost use mathlib.Core.Path.{_≡_};
 ghost use mathlib.Core.List.{_++_};
 ghost use Prim.Native.Nat.{_+_, _≤_};
 ghost use lib.ListN.{length, take};
+ghost use lib.Seq.{paste};
 ghost use Rattle.standard.specs.Strings.{bytesOf};
 ghost use Rattle.standard.specs.Hash.{digest};
 ghost use Rattle.standard.specs.Sha256.{sha256};
@@ -49,8 +50,7 @@ fn word_bytes(x: u32) -> [u8; 4]
 
 fn put_word(out: &mut [u8], at: usize, x: u32)
     requires { ⌜ at + 4 ≤ length (now out) ⌝ }
-    ensures is { λ _. ⌜ take (at + 4) (now (out .exit)) ≡ take at (now (out .entry)) ++ bytesOf 4 x ⌝ }
-    ensures sized { λ _. ⌜ length (now (out .exit)) ≡ length (now (out .entry)) ⌝ }
+    ensures { λ _. ⌜ now (out .exit) ≡ paste (now (out .entry)) at (bytesOf 4 x) 4 ⌝ }
 {
     let b = word_bytes(x);
     copies::copy(out, at, &b);
@@ -59,22 +59,14 @@ fn put_word(out: &mut [u8], at: usize, x: u32)
 // The 32 bytes in a lent string, from `at` on.
 pub fn put(out: &mut [u8], at: usize, s: Eight)
     requires { ⌜ at + 32 ≤ length (now out) ⌝ }
-    ensures is { λ _. ⌜ take (at + 32) (now (out .exit)) ≡ take at (now (out .entry)) ++ digest sha256 (eightOf s) ⌝ }
-    ensures sized { λ _. ⌜ length (now (out .exit)) ≡ length (now (out .entry)) ⌝ }
+    ensures { λ _. ⌜ now (out .exit) ≡ paste (now (out .entry)) at (digest sha256 (eightOf s)) 32 ⌝ }
 {
     put_word(out, at, s.a);
-    let b = at + 4;
-    put_word(out, b, s.b);
-    let c = b + 4;
-    put_word(out, c, s.c);
-    let d = c + 4;
-    put_word(out, d, s.d);
-    let e = d + 4;
-    put_word(out, e, s.e);
-    let f = e + 4;
-    put_word(out, f, s.f);
-    let g = f + 4;
-    put_word(out, g, s.g);
-    let h = g + 4;
-    put_word(out, h, s.h);
+    put_word(out, at + 4, s.b);
+    put_word(out, at + 8, s.c);
+    put_word(out, at + 12, s.d);
+    put_word(out, at + 16, s.e);
+    put_word(out, at + 20, s.f);
+    put_word(out, at + 24, s.g);
+    put_word(out, at + 28, s.h);
 }

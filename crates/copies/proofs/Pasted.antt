@@ -1,11 +1,11 @@
--- A whole string copied into another. Assumes nothing.
+-- A whole string copied into another, and two, one behind the other. Assumes nothing.
 use mathlib.Core.Path.{_≡_, sym, ap, ap₂, _∙_}
 use mathlib.Core.List.{List, _++_, append-assoc, append-nil}
 use Prim.Native.Nat.{ℕ, _+_, _≤_}
-use native.Mathlib.Nat.{le-of-eq, le-refl}
+use native.Mathlib.Nat.{le-of-eq, le-refl, add-assoc}
 use native.Mathlib.Omega.{arith}
 use lib.ListN.{length, take, drop, drop-of-length-le, length-append, length-drop}
-use lib.Seq.{paste, take-all, take-append-add, take-at, take-take, length-take-le}
+use lib.Seq.{paste, take-paste, drop-paste, drop-drop, take-all, take-append-add, take-at, take-take, length-take-le}
 
 pub pasted : (d s : List ℕ) (at n : ℕ) → length s ≡ n → paste d at s (length s) ≡ take at d ++ (s ++ drop (at + n) d)
 pasted d s at n size =
@@ -32,3 +32,26 @@ pasted-both z s r a b z-size a-size b-size s-is r-is =
     ap₂ (λ p q. p ++ (take 23 b ++ q)) (ap (take 32) first ∙ take-at a (drop 32 z) 32 a-size) (drop-of-length-le s long) ∙
     ap (λ q. a ++ q) (append-nil (take 23 b)) ∙
     sym (take-both a b 32 23 a-size)
+
+-- a string put in, and two, one behind the other
+module _ (d a : List ℕ) (at m : ℕ) (sized : length a ≡ m) where
+  pub paste-whole : paste d at a m ≡ take at d ++ a ++ drop (at + m) d
+  paste-whole = ap (λ u. take at d ++ u ++ drop (at + m) d) (take-all m a (le-of-eq sized))
+
+  pub take-paste-whole : at ≤ length d → take (at + m) (paste d at a m) ≡ take at d ++ a
+  take-paste-whole room =
+      take-paste d at a m room (le-of-eq (sym sized)) ∙ ap (λ u. take at d ++ u) (take-all m a (le-of-eq sized))
+
+  pub paste-join : (b : List ℕ) (n : ℕ) → at + m + n ≤ length d → length b ≡ n
+      → paste (paste d at a m) (at + m) b n ≡ paste d at (a ++ b) (m + n)
+  paste-join b n room second =
+      let behind : drop (at + m + n) (paste d at a m) ≡ drop (at + (m + n)) d =
+      sym (drop-drop n (at + m) (paste d at a m)) ∙
+      ap (drop n) (drop-paste d at a m (omega arith) (le-of-eq (sym sized))) ∙
+      drop-drop n (at + m) d ∙
+      ap (λ k. drop k d) (add-assoc at m n) in
+      let both : take (m + n) (a ++ b) ≡ a ++ b =
+      take-all (m + n) (a ++ b) (le-of-eq (length-append a b ∙ ap₂ _+_ sized second)) in
+      ap₂ (λ u v. u ++ take n b ++ v) (take-paste-whole (omega arith)) behind ∙
+      ap (λ u. take at d ++ a ++ u ++ drop (at + (m + n)) d) (take-all n b (le-of-eq second)) ∙
+      ap (λ u. u ++ drop (at + (m + n)) d) (append-assoc (take at d) a b ∙ ap (λ u. take at d ++ u) (sym both))

@@ -40,7 +40,7 @@ module _ (v : List ℕ) (n : ℕ) where
   ready-more limbs further sum ready =
       one-more (turnData v n) (stringOf limbs) (stringOf further) ready sum ∙ ap (λ d. d ++ (128 ∷ [])) (sym data-more)
 
-  -- one hash more in the output
+  -- one hash more in the output, as much of it as there is room for
   module _ (out new w : List ℕ) (w-is : w ≡ digest sha256 (compressed sha256 (sha256 .initial) (turnBlock v n))) (so-far : Filled v n out)
       (size : length new ≡ length out) where
     made-size : length (made v n) ≡ 32 * n
@@ -55,7 +55,6 @@ module _ (v : List ℕ) (n : ℕ) where
         ap (λ s. made v n ++ s)
         (ap (λ m. m .value) (hash-of-one (turnData v n) (length-data-hashgenTurns sha256 v n (so-far .long))) ∙ sym w-is)
 
-    -- as much of it as there is room for
     pub filled-stored : 32 * n < length out → new ≡ paste out (32 * n) w (min 32 (length out - 32 * n)) → Filled v (n + 1) new
     filled-stored inside new-is =
         let whole : length w ≡ 32 = ap length w-is ∙ length-digest sha256 _ in
@@ -66,22 +65,6 @@ module _ (v : List ℕ) (n : ℕ) where
               ap (take (32 * n + 32)) new-is ∙
               stored-more out (made v n) w (32 * n) inside made-size whole (so-far .first) ∙
               ap₂ take (sym size) (sym turn-made);
-        }
-
-    -- all of it
-    pub filled-put : 32 * n + 32 ≤ length out → take (32 * n + 32) new ≡ take (32 * n) out ++ w → Filled v (n + 1) new
-    filled-put room new-is =
-        let before : length (made v n) ≤ length out = omega (arith, made-size) in
-        let after : length (made v (n + 1)) ≤ length new =
-        omega (arith, length-hashgenTurns sha256 v (n + 1), size) in
-        record {
-          long = so-far .long;
-          first =
-              ap (λ k. take k new) next ∙
-              new-is ∙
-              ap (λ p. p ++ w) (so-far .first ∙ take-all (length out) (made v n) before) ∙
-              sym turn-made ∙
-              sym (take-all (length new) (made v (n + 1)) after);
         }
 
 -- no turn yet

@@ -4,25 +4,17 @@ use mathlib.Core.List.{List, [], _∷_, _++_, append-assoc}
 use Prim.Native.Nat.{ℕ, suc, _+_, _*_, _/_, _%_, _<_}
 use native.Mathlib.Nat.{mod-eq-of-lt}
 use native.Mathlib.Omega.{arith}
-use borrow.Author.Tests.{lt-ltb}
 use lib.ListN.{length, getD, take, drop, set}
 use lib.Seq.{split-at, take-at, drop-at, drop-drop}
 use Rattle.standard.specs.Strings.{numberOf, bytesOf}
-use Rattle.standard.specs.Hash.{wordAt, schedule, scheduleWord}
+use Rattle.standard.specs.Hash.{wordAt, schedule}
 use Rattle.standard.specs.Sha256.{sha256}
-use Rattle.standard.proofs.Hash.{schedule-more}
+use Rattle.standard.proofs.Hash.{schedule-own}
 use Rattle.standard.proofs.Strings.{bytesOf-add, length-bytesOf, numberOf-bytesOf}
 use Rattle.compression.proofs.Stores.{take-more-set}
 use Rattle.sums.specs.Limbs.{stringOf}
 use Rattle.hashgen.specs.Turns.{blockEnd}
 use Rattle.sums.proofs.Limbs.{stringOf-append, stringOf-cons, length-first}
-
--- word t of a block, behind the words before it
-schedule-word : (block : List ℕ) (t : ℕ) → t < 16 → schedule sha256 block (t + 1) ≡ schedule sha256 block t ++ (wordAt sha256 block t ∷ [])
-unfolding scheduleWord
-schedule-word block t few =
-    let own : scheduleWord sha256 block (schedule sha256 block t) t ≡ wordAt sha256 block t = rw (lt-ltb t 16 few) in
-    schedule-more sha256 block t ∙ ap (λ x. schedule sha256 block t ++ (x ∷ [])) own
 
 -- word t of a block, put behind the first t words of its lane
 pub word-put : (words p block : List ℕ) (base t at x : ℕ) → at ≡ base + t → base + t < length words → t < 16 → x ≡ wordAt sha256 block t
@@ -33,7 +25,7 @@ word-put words p block base t at x at-is room few x-is so-far =
     take-more-set words (base + t) x room ∙
     ap₂ (λ q y. q ++ (y ∷ [])) so-far x-is ∙
     append-assoc p (schedule sha256 block t) (wordAt sha256 block t ∷ []) ∙
-    ap (λ q. p ++ q) (sym (schedule-word block t few))
+    ap (λ q. p ++ q) (sym (schedule-own sha256 block t few))
 
 -- word t of a string, from the four bytes behind the first 4 * t
 word-behind : (s rest : List ℕ) (t at x : ℕ) → 4 * t ≡ at → drop at s ≡ bytesOf 4 x ++ rest → wordAt sha256 s t ≡ x % 4294967296

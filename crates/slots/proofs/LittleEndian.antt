@@ -1,15 +1,16 @@
 -- Numbers and their bytes, and strings put into others. Assumes nothing.
 use mathlib.Core.Path.{_≡_, sym, ap, ap₂, subst, _∙_}
-use mathlib.Core.List.{List, [], _∷_, _++_, append-assoc, append-nil, reverse, reverse-cons, reverse-append, reverse-reverse}
+use mathlib.Core.List.{List, [], _∷_, _++_, append-nil, reverse, reverse-cons, reverse-append, reverse-reverse}
 use Prim.Native.Nat.{ℕ, suc, _+_, _-_, _*_, _/_, _%_, _^_, _≤_, _<_}
-use native.Mathlib.Nat.{zero-add, add-assoc, add-comm, mul-comm, mod-eq-of-lt, le-of-eq}
+use native.Mathlib.Nat.{zero-add, add-comm, mul-comm, mod-eq-of-lt, le-of-eq}
 use native.Mathlib.Numerals.{add-one}
 use native.Mathlib.Omega.{arith}
-use lib.ListN.{length, take, drop, getD, set, length-drop, length-append, length-reverse, drop-of-length-le}
-use lib.Seq.{take-add, drop-drop, drop-cons, length-take-le, take-all, sets-eq, paste, take-paste, drop-paste, length-paste}
+use lib.ListN.{length, take, drop, getD, set, length-drop, length-reverse, drop-of-length-le}
+use lib.Seq.{take-add, drop-drop, drop-cons, length-take-le, take-all, sets-eq, paste, length-paste}
 use Rattle.standard.specs.Strings.{numberOf, bytesOf, Bytes}
 use Rattle.standard.proofs.Strings.{bytes-nil, bytes-append, bytes-cons, bytes-head, bytes-tail, length-bytesOf, bytesOf-add, bytesOf-mod}
 use Rattle.standard.proofs.Strings.{numberOf-append, numberOf-lt, numberOf-bytesOf, bytesOf-numberOf}
+use Rattle.copies.proofs.Pasted.{take-paste-whole, paste-join}
 use Rattle.slots.specs.Numbers.{part, fromLittleEndian, littleEndian}
 
 pub length-littleEndian : (n x : ℕ) → length (littleEndian n x) ≡ n
@@ -85,29 +86,6 @@ number-join at m n low high s room is-low is-high =
     (ap fromLittleEndian (part-join at m n s) ∙
     number-append (part at m s) (part (at + m) n s) ∙
     ap (λ k. fromLittleEndian (part at m s) + 256 ^ k * fromLittleEndian (part (at + m) n s)) (length-part at m s room))
-
--- a string put in, and two, one behind the other
-module _ (d a : List ℕ) (at m : ℕ) (sized : length a ≡ m) where
-  pub paste-whole : paste d at a m ≡ take at d ++ a ++ drop (at + m) d
-  paste-whole = ap (λ u. take at d ++ u ++ drop (at + m) d) (take-all m a (le-of-eq sized))
-
-  pub take-paste-whole : at ≤ length d → take (at + m) (paste d at a m) ≡ take at d ++ a
-  take-paste-whole room =
-      take-paste d at a m room (le-of-eq (sym sized)) ∙ ap (λ u. take at d ++ u) (take-all m a (le-of-eq sized))
-
-  pub paste-join : (b : List ℕ) (n : ℕ) → at + m + n ≤ length d → length b ≡ n
-      → paste (paste d at a m) (at + m) b n ≡ paste d at (a ++ b) (m + n)
-  paste-join b n room second =
-      let behind : drop (at + m + n) (paste d at a m) ≡ drop (at + (m + n)) d =
-      sym (drop-drop n (at + m) (paste d at a m)) ∙
-      ap (drop n) (drop-paste d at a m (omega arith) (le-of-eq (sym sized))) ∙
-      drop-drop n (at + m) d ∙
-      ap (λ k. drop k d) (add-assoc at m n) in
-      let both : take (m + n) (a ++ b) ≡ a ++ b =
-      take-all (m + n) (a ++ b) (le-of-eq (length-append a b ∙ ap₂ _+_ sized second)) in
-      ap₂ (λ u v. u ++ take n b ++ v) (take-paste-whole (omega arith)) behind ∙
-      ap (λ u. take at d ++ a ++ u ++ drop (at + (m + n)) d) (take-all n b (le-of-eq second)) ∙
-      ap (λ u. u ++ drop (at + (m + n)) d) (append-assoc (take at d) a b ∙ ap (λ u. take at d ++ u) (sym both))
 
 -- a number put in, by its low bytes and its high ones
 pub put-join : (d e f : List ℕ) (at m n x : ℕ) → at + m + n ≤ length d → e ≡ paste d at (littleEndian m (x % 256 ^ m)) m

@@ -17,7 +17,8 @@ use Rattle.slots.specs.Slots.{slotBytes, slotFrom}
 use Rattle.slots.specs.Machine.{Fits, Machine}
 use Rattle.slots.specs.Bytes.{slotsBytes, tableBytes, slotsFrom, tableOf}
 use Rattle.slots.proofs.LittleEndian.{length-littleEndian, from-below, from-littleEndian, littleEndian-from}
-use Rattle.slots.proofs.LittleEndian.{length-part, paste-whole}
+use Rattle.slots.proofs.LittleEndian.{length-part}
+use Rattle.copies.proofs.Pasted.{paste-whole}
 use Rattle.slots.proofs.SlotBytes.{bytes-slotFrom, length-slotBytes, slotFrom-bytes}
 
 next : (n : ℕ) → slotSize + slotSize * n ≡ slotSize * suc n

@@ -1,5 +1,5 @@
 -- The hash, one step at a time: one more turn, one more word of the schedule, one more block. Assumes nothing.
-use mathlib.Core.Path.{_≡_, refl, sym, ap₂, _∙_}
+use mathlib.Core.Path.{_≡_, refl, sym, ap, ap₂, _∙_}
 use mathlib.Core.List.{List, [], _∷_, _++_}
 use Prim.Native.Nat.{ℕ, zero, suc, _+_, _*_, _≤_, _<_}
 use native.Mathlib.Numerals.{add-one}
@@ -26,15 +26,19 @@ module _ (H : Hash) where
   unfolding absorbed
   absorbed-more m i s = rw add-one
 
+  -- one more of the block's own words
+  pub schedule-own : (block : List ℕ) (t : ℕ) → t < 16 → schedule H block (t + 1) ≡ schedule H block t ++ (wordAt H block t ∷ [])
+  unfolding scheduleWord
+  schedule-own block t few =
+      let own : scheduleWord H block (schedule H block t) t ≡ wordAt H block t = rw (lt-ltb t 16 few) in
+      schedule-more block t ∙ ap (λ x. schedule H block t ++ (x ∷ [])) own
+
   -- an array whose first t words are the schedule's, and the next one of the block's own words stored
   pub block-word-stored :
       (block w : List ℕ) (t v : ℕ) → t < length w → take t w ≡ schedule H block t → t < 16 → v ≡ wordAt H block t
       → take (t + 1) (set w t v) ≡ schedule H block (t + 1)
-  unfolding scheduleWord
   block-word-stored block w t v room so-far few e =
-      rw (add-one) (take-suc-set w t v room) ∙
-      ap₂ (λ x y. x ++ (y ∷ [])) so-far (e ∙ sym (rw (lt-ltb t 16 few))) ∙
-      sym (schedule-more block t)
+      rw (add-one) (take-suc-set w t v room) ∙ ap₂ (λ x y. x ++ (y ∷ [])) so-far e ∙ sym (schedule-own block t few)
 
   -- the first blocks of a string do not see what follows it
   pub blockAt-append : (m x : List ℕ) (i : ℕ) → blockBytes H * (i + 1) ≤ length m → blockAt H (m ++ x) i ≡ blockAt H m i

@@ -1,15 +1,16 @@
 -- After i hashes the output holds those of the first i turns of the group too. Assumes nothing.
-use Prim.Native.Nat.{ℕ, _+_, _-_, _*_, _≤_}
-use mathlib.Core.Path.{_≡_, ap, subst}
+use Prim.Native.Nat.{ℕ, _+_, _-_, _*_, _≤_, _<_, min}
+use mathlib.Core.Path.{_≡_, sym, ap, subst, _∙_}
 use mathlib.Core.List.{List}
 use native.Mathlib.Omega.{arith}
 use lib.ListN.{length, getD}
+use lib.Seq.{paste}
 use Rattle.standard.specs.Hash.{digest}
 use Rattle.standard.specs.Sha256.{sha256}
 use Rattle.compression.specs.Values.{eightOf}
 use Rattle.lanes.specs.Lanes.{noEight}
 use Rattle.hashgen.specs.Turns.{Filled, HashesFrom}
-use Rattle.hashgen.proofs.Turns.{filled-put}
+use Rattle.hashgen.proofs.Turns.{filled-stored}
 use borrow.Author.Needs.{needs}
 use Rattle.hashgen.proofs.groups.put_hashes.Statement.{statement}
 use Rattle.hashgen.proofs.groups.put_hashes.Tie as tie
@@ -35,15 +36,18 @@ loop-again c =
     let n = a .turn + l .i in
     let w = digest sha256 (eightOf (getD (a .t3) (l .i) noEight)) in
     let new = put .last .0 in
-    let size : length new ≡ length (l .out) = put .ensures .1 in
+    let size : length new ≡ length (l .out) = search needs in
     let next : n + 1 ≡ a .turn + (l .i + 1) = omega arith in
-    let room : 32 * n + 32 ≤ length (l .out) = omega arith in (
+    let inside : 32 * n < length (l .out) = omega arith in
+    let whole : min 32 (length (l .out) - 32 * n) ≡ 32 = omega arith in
+    let put-is : new ≡ paste (l .out) (32 * n) w (min 32 (length (l .out) - 32 * n)) =
+    put .ensures ∙ ap (paste (l .out) (32 * n) w) (sym whole) in (
       search needs,
       search needs,
       λ v hashes filled.
           subst (λ k. Filled v k new) next
-          (filled-put v n (l .out) new w (ap (digest sha256) (hashes (l .i) (omega arith))) (l .inv .2 v hashes filled) size room
-          (put .ensures .0)),
+          (filled-stored v n (l .out) new w (ap (digest sha256) (hashes (l .i) (omega arith))) (l .inv .2 v hashes filled) size inside
+          put-is),
     )
 
 returns : tie.Need-returns Inv-loop μ-loop
