@@ -40,14 +40,15 @@ loop-again c =
     let next : n + 1 ≡ a .turn + (l .i + 1) = omega arith in
     let inside : 32 * n < length (l .out) = omega arith in
     let whole : min 32 (length (l .out) - 32 * n) ≡ 32 = omega arith in
-    let put-is : new ≡ paste (l .out) (32 * n) w (min 32 (length (l .out) - 32 * n)) =
-    put .ensures ∙ ap (paste (l .out) (32 * n) w) (sym whole) in (
+    let put-is : new ≡ paste (l .out) (32 * n) w 32 = put .ensures in
+    let stored : new ≡ paste (l .out) (32 * n) w (min 32 (length (l .out) - 32 * n)) =
+    put-is ∙ ap (paste (l .out) (32 * n) w) (sym whole) in (
       search needs,
       search needs,
       λ v hashes filled.
           subst (λ k. Filled v k new) next
           (filled-stored v n (l .out) new w (ap (digest sha256) (hashes (l .i) (omega arith))) (l .inv .2 v hashes filled) size inside
-          put-is),
+          stored),
     )
 
 returns : tie.Need-returns Inv-loop μ-loop
