@@ -1,4 +1,7 @@
 // Bare compressions, for the bench: nothing but the blocks of a text, each absorbed into the words of the one before.
+
+#![tactic(auto)]
+
 ghost use Rattle.std.specs.Prelude.{◌≡◌, ◌/◌, length};
 ghost use Rattle.standard.specs.Hash.{absorbed};
 ghost use Rattle.standard.specs.Sha256.{sha256};

@@ -1,4 +1,7 @@
 // Openings and draws on numbers and lent slices, for the bench: a generator's two fields go in, and its successor's come back.
+
+#![tactic(auto)]
+
 ghost use Rattle.std.specs.Prelude.{◌≡◌, [], length};
 ghost use Rattle.bench_draws.specs.Held.{in_limits, opened_in, drawn_in};
 

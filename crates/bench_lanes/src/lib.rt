@@ -1,4 +1,7 @@
 // The lanes by themselves, for the bench: the blocks of a text, four at a time, each the only block of a message.
+
+#![tactic(auto)]
+
 ghost use Rattle.std.specs.Prelude.{◌≡◌, ◌++◌, ℕ, ◌+◌, ◌*◌, ◌/◌, ◌≤◌, ◌<◌, length, take};
 ghost use Rattle.standard.specs.Hash.{schedule, block_at};
 ghost use Rattle.standard.specs.Sha256.{sha256};

@@ -9,7 +9,7 @@ use crate::cursor;
 use crate::cursor::Cursor;
 use crate::string::Part;
 
-#[derive(Drop)]
+#[derive(Clone, Copy)]
 pub enum Record {
     Open {
         mechanism: u64,
@@ -47,7 +47,7 @@ pub enum Record {
 }
 
 // A record with the next place, or none that can be read.
-#[derive(Drop)]
+#[derive(Clone, Copy)]
 pub enum RecordAt {
     Found(Record, usize),
     Bad,

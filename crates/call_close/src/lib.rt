@@ -1,4 +1,7 @@
 // SP 800-90A §9.4: every field of the slot goes to zero.
+
+#![tactic(auto)]
+
 ghost use Rattle.std.specs.Prelude.{◌≡◌, []};
 ghost use Rattle.table.specs.Calls.{closes};
 ghost use Rattle.table.specs.OnBytes.{leaving, in_bytes};

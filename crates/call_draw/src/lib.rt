@@ -1,4 +1,7 @@
 // SP 800-90A §9.3, without prediction resistance: a plain draw never reseeds.
+
+#![tactic(auto)]
+
 ghost use Rattle.std.specs.Prelude.{◌≡◌};
 ghost use Rattle.table.specs.Calls.{draws};
 ghost use Rattle.table.specs.OnBytes.{leaving, in_bytes};

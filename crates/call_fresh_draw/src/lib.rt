@@ -1,4 +1,7 @@
 // SP 800-90A §9.3, with prediction resistance: a reseed, then a draw with no additional input. Reseed due is no reason here.
+
+#![tactic(auto)]
+
 ghost use Rattle.std.specs.Prelude.{◌≡◌};
 ghost use Rattle.table.specs.Calls.{fresh_draws};
 ghost use Rattle.table.specs.OnBytes.{leaving, in_bytes};

@@ -1,4 +1,7 @@
 // How many draws are left.
+
+#![tactic(auto)]
+
 ghost use Rattle.std.specs.Prelude.{◌≡◌, []};
 ghost use Rattle.table.specs.Calls.{inquires};
 ghost use Rattle.table.specs.OnBytes.{leaving, in_bytes};

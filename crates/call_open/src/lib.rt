@@ -1,4 +1,7 @@
 // SP 800-90A §9.1: an opening takes the next serial and the lowest free slot.
+
+#![tactic(auto)]
+
 ghost use Rattle.std.specs.Prelude.{◌≡◌, []};
 ghost use Rattle.table.specs.Calls.{opens};
 ghost use Rattle.table.specs.OnBytes.{leaving, in_bytes};

@@ -1,4 +1,7 @@
 // SP 800-90A §9.2.
+
+#![tactic(auto)]
+
 ghost use Rattle.std.specs.Prelude.{◌≡◌, []};
 ghost use Rattle.table.specs.Calls.{reseeds};
 ghost use Rattle.table.specs.OnBytes.{leaving, in_bytes};

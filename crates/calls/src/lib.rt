@@ -1,4 +1,7 @@
 // Document 01: the six calls on a table. Any table, any handle, any lengths and bytes: no call asks anything of its caller.
+
+#![tactic(auto)]
+
 pub use call_close::close;
 pub use call_draw::draw;
 pub use call_fresh_draw::fresh_draw;

@@ -1,5 +1,8 @@
 // The library that C and Rust link: the six calls on a table in the caller's 2,148 bytes, and a test of them. include/purangsa.h says what
 // each promises.
+
+#![tactic(auto)]
+
 ghost use Rattle.std.specs.Prelude.{◌≡◌, [], not, eqb};
 ghost use Rattle.table.specs.Calls.{opens, reseeds, draws, fresh_draws, closes, inquires};
 ghost use Rattle.table.specs.OnBytes.{in_bytes};

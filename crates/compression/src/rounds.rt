@@ -8,7 +8,7 @@ ghost use Rattle.compression.specs.Values.{eight_of};
 use crate::{schedule, words};
 
 // The eight words of a hash value, or the eight working variables.
-#[derive(Drop)]
+#[derive(Clone, Copy)]
 pub struct Eight {
     pub a: u32,
     pub b: u32,

@@ -1,2 +1,5 @@
 // A generator as it stands in a slot, of either mechanism.
+
+#![tactic(auto)]
+
 pub mod generator;

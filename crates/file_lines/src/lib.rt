@@ -1,4 +1,7 @@
 // The lines of a file that is read through a window: a line is held until its end is seen.
+
+#![tactic(auto)]
+
 ghost use Rattle.std.specs.Prelude.{◌≡◌, ◌<◌, ◌≤◌, length};
 ghost use Rattle.file_lines.specs.Lines.{text_end};
 ghost use Rattle.file_lines.specs.Held.{line_size, HeldOn};
@@ -7,7 +10,7 @@ ghost use Rattle.file_lines.specs.Held.{line_size, HeldOn};
 pub const LINE: usize = 4098;
 
 // The next place in the window, the characters that are held, and whether the line's end was seen.
-#[derive(Drop)]
+#[derive(Clone, Copy)]
 pub struct Held {
     pub next: usize,
     pub held: usize,

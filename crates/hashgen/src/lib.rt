@@ -1,5 +1,8 @@
 // SP 800-90A §10.1.1.4: Hashgen over SHA-256. A turn hashes V, V + 1, V + 2 and so on, each a message of one block. None waits for another,
 // so they are made in groups of four as far as there is room, and one by one from there.
+
+#![tactic(auto)]
+
 pub mod groups;
 pub mod limbs;
 pub mod singles;

@@ -3,6 +3,9 @@
 //
 // A function as long as `all_turns` is put in the place of its call only where that is its only call. So it stands here again as it stands
 // in `compression`, over the same two functions, and neither it nor `lane_hashed` may get a second caller.
+
+#![tactic(auto)]
+
 ghost use Rattle.std.specs.Prelude.{◌≡◌, List, ℕ, ◌<◌, length};
 ghost use Rattle.standard.specs.Hash.{schedule, compressed};
 ghost use Rattle.standard.specs.Ring.{Reached};

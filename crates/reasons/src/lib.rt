@@ -1,5 +1,8 @@
 // Document 01, 'Order of checks': the first reason of each call, 0 where there is none, on plain numbers and in a straight line.
 // Reasons 1 and 2 are the calls' own: what is asked here is asked of a sound table, and of a handle that names a generator.
+
+#![tactic(auto)]
+
 mod drawing;
 mod fresh_drawing;
 mod opening;

@@ -1,5 +1,8 @@
 // The program: reports on the response files that its words name, a line for each case. What can't be read or written is told in a line
 // on standard error, and nothing more is run.
+
+#![tactic(auto)]
+
 mod reading;
 mod telling;
 
@@ -8,7 +11,7 @@ ghost use Rattle.io.specs.Counts.{IsPrefixLen};
 use libc::STDIN_FILENO;
 
 // What the words so far have said: the mechanism (0 where none has), whether one named a file, and whether the run goes on.
-#[derive(Drop)]
+#[derive(Clone, Copy)]
 pub struct Words {
     pub mechanism: u64,
     pub named: bool,

@@ -1,4 +1,7 @@
 // Reports on a response file that is read through a window: a line for each case (specs/Report.antt).
+
+#![tactic(auto)]
+
 ghost use Rattle.std.specs.Prelude.{◌≡◌, false, ◌+◌, ◌^◌, ◌≤◌, ◌<◌, length};
 ghost use Rattle.text.specs.Writing.{Appends};
 ghost use Rattle.file_lines.specs.Held.{line_size};
@@ -19,7 +22,7 @@ pub const STORE: usize = 65536;
 
 // How far the reading of a file has come: the point in the case at hand, how many bytes of the store its fields take, how many lines
 // were read, how many characters of the next one are held, and whether a line could not be read.
-#[derive(Drop)]
+#[derive(Clone, Copy)]
 pub struct Progress {
     pub point: Point,
     pub used: usize,
@@ -29,14 +32,14 @@ pub struct Progress {
 }
 
 // Behind a line: where its report ends in the text.
-#[derive(Drop)]
+#[derive(Clone, Copy)]
 pub struct Reported {
     pub progress: Progress,
     pub end: usize,
 }
 
 // Behind a piece of the window: where the window is read on, and where the report ends.
-#[derive(Drop)]
+#[derive(Clone, Copy)]
 pub struct Piece {
     pub progress: Progress,
     pub next: usize,
@@ -44,7 +47,7 @@ pub struct Piece {
 }
 
 // Behind a file: where the report ends, and whether a line could not be read.
-#[derive(Drop)]
+#[derive(Clone, Copy)]
 pub struct Ended {
     pub end: usize,
     pub stopped: bool,

@@ -3,14 +3,14 @@ ghost use Rattle.std.specs.Prelude.{◌≡◌, cond, ◌<◌};
 ghost use Rattle.rsp_case.specs.Heads.{no_heads, heads_under, with_fresh, with_length, length_for, fits};
 
 // The length of a field, in bits.
-#[derive(Drop)]
+#[derive(Clone, Copy)]
 pub enum Length {
     Any,
     Bits(u64),
 }
 
 // `known` where a hash was named, `ours` where it is SHA-256, `fresh` where prediction resistance is True.
-#[derive(Drop)]
+#[derive(Clone, Copy)]
 pub struct Heads {
     pub known: bool,
     pub ours: bool,

@@ -9,7 +9,7 @@ use crate::heads;
 use crate::heads::Heads;
 
 // `last` is what stood last in the case at hand, COUNT or a field's name, 0 between cases; `number` is the case's COUNT.
-#[derive(Drop)]
+#[derive(Clone, Copy)]
 pub struct Point {
     pub heads: Heads,
     pub last: u64,
@@ -18,7 +18,7 @@ pub struct Point {
 
 // It goes on, with the line's field kept or not; the case is whole, the line's field being what was returned; the case is passed over;
 // or the line can't be read.
-#[derive(Drop)]
+#[derive(Clone, Copy)]
 pub enum Next {
     Goes(Point),
     Keeps(Point),

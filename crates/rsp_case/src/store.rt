@@ -15,7 +15,7 @@ use rsp_line::line::Said;
 use rsp_line::{hex, line};
 
 // Where a line led; how many bytes of the store the fields take, and where what was returned ends behind them.
-#[derive(Drop)]
+#[derive(Clone, Copy)]
 pub struct Took {
     pub next: Next,
     pub used: usize,

@@ -4,7 +4,7 @@ ghost use Rattle.rsp_line.specs.Decimal.{number_of};
 ghost use Rattle.rsp_line.specs.Values.{read_as};
 
 // A number, or what is none.
-#[derive(Drop)]
+#[derive(Clone, Copy)]
 pub enum Number {
     Found(u64),
     Bad,

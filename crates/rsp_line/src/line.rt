@@ -8,7 +8,7 @@ use crate::{decimal, hex, name};
 use same::same;
 
 // A field's value stands in hexadecimal digits from a place of the line on.
-#[derive(Drop)]
+#[derive(Clone, Copy)]
 pub enum Said {
     Nothing,
     Hash(bool),
@@ -20,7 +20,7 @@ pub enum Said {
 }
 
 // Where a value starts, or that none stands behind the name.
-#[derive(Drop)]
+#[derive(Clone, Copy)]
 pub enum ValueAt {
     Found(usize),
     Bad,

@@ -3,7 +3,7 @@ ghost use Rattle.std.specs.Prelude.{◌≤◌, ◌<◌, ◌≡◌, length};
 ghost use Rattle.rsp_run.specs.Places.{In, value_at, ReadAt};
 
 // A field's name, and where its value stands; behind the last field a value of no bytes, under no name.
-#[derive(Drop)]
+#[derive(Clone, Copy)]
 pub struct Place {
     pub name: u8,
     pub start: usize,

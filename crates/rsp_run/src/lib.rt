@@ -1,4 +1,7 @@
 // Runs a case of a response file: whether it passes (specs/Run.antt).
+
+#![tactic(auto)]
+
 ghost use Rattle.std.specs.Prelude.{ℕ, ◌≤◌, ◌≡◌, List, length};
 ghost use Rattle.rsp_case.specs.Cases.{Field, case_of};
 ghost use Rattle.rsp_case.specs.Store.{stored};
@@ -19,7 +22,7 @@ const OUTPUT: usize = 2048;
 const INTERVAL: u64 = 281474976710656;
 
 // What the opening was answered, and where the steps begin.
-#[derive(Drop)]
+#[derive(Clone, Copy)]
 pub struct Opened {
     pub told: Told,
     pub next: usize,

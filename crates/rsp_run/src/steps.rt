@@ -9,7 +9,7 @@ const ENTROPY_INPUT_RESEED: u8 = 6;
 const ENTROPY_INPUT_PR: u8 = 8;
 
 // What a step's call was answered, and where the next step begins.
-#[derive(Drop)]
+#[derive(Clone, Copy)]
 pub struct Stepped {
     pub number: u64,
     pub next: usize,

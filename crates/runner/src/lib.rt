@@ -1,5 +1,8 @@
 // Runs a call book from a fresh table: a line for each record. All but the writing itself is promised by what a run prints
 // (specs/Run.antt).
+
+#![tactic(auto)]
+
 ghost use Rattle.std.specs.Prelude.{◌≡◌, ◌++◌, ◌+◌, ◌≤◌, ◌<◌, length, take, replicate};
 ghost use Rattle.book.specs.Records.{Fits, PartsIn, meaning_of};
 ghost use Rattle.slots.specs.Sizes.{table_size};
@@ -21,7 +24,7 @@ const ENOUGH: usize = 4096;
 const TEXT: usize = ENOUGH + LINE;
 
 // How a record was answered: its kind, what its call told, and how many bytes it drew to the front of the output.
-#[derive(Drop)]
+#[derive(Clone, Copy)]
 pub struct Answered {
     pub kind: u64,
     pub told: Told,
@@ -166,7 +169,7 @@ fn run_record(
 }
 
 // Where the lines end in the text, and where the next record begins in the book.
-#[derive(Drop)]
+#[derive(Clone, Copy)]
 pub struct Piece {
     pub end: usize,
     pub next: usize,

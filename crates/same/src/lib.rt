@@ -1,4 +1,7 @@
 // Whether two strings are equal: every byte is looked at, whatever those before it were.
+
+#![tactic(auto)]
+
 ghost use Rattle.std.specs.Prelude.{◌≡◌};
 ghost use Rattle.same.specs.Same.{same};
 

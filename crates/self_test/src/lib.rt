@@ -1,4 +1,7 @@
 // SP 800-90A §11.3, known-answer tests: the calls that ship, on NIST's published cases and on one that is refused.
+
+#![tactic(auto)]
+
 pub mod cases;
 pub mod published;
 

@@ -6,14 +6,14 @@ ghost use Rattle.sha256.specs.Seed.{string_end, Ready, ReadOn, size, Advanced};
 use crate::running::Running;
 
 // A place in the one string, and the hash that has read what stands before it.
-#[derive(Drop)]
+#[derive(Clone, Copy)]
 pub struct Place {
     pub at: usize,
     pub hash: Running,
 }
 
 // The three strings, lent, and a place in the one string that they make: what stands before it is read.
-#[derive(Drop)]
+#[derive(Clone, Copy)]
 pub struct Reader<'a> {
     pub entropy: &'a [u8],
     pub nonce: &'a [u8],

@@ -10,7 +10,7 @@ use crate::padding;
 use compression::rounds::Eight;
 use compression::{digest, rounds};
 
-#[derive(Drop)]
+#[derive(Clone, Copy)]
 pub struct Running {
     pub words: Eight,
     // blocks absorbed so far
@@ -20,7 +20,7 @@ pub struct Running {
     pub waiting: usize,
 }
 
-#[derive(Drop)]
+#[derive(Clone, Copy)]
 pub struct Digest {
     pub bytes: [u8; 32],
     pub blocks: u64,

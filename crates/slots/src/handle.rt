@@ -7,7 +7,7 @@ ghost use Rattle.slots.specs.Bytes.{table_of};
 use crate::layout;
 
 // Where a handle leads.
-#[derive(Drop)]
+#[derive(Clone, Copy)]
 pub enum Found {
     At(usize),
     Nothing,

@@ -1,1 +1,3 @@
 // No code: the public standards as definitions (specs/) and laws about them (proofs/).
+
+#![tactic(auto)]

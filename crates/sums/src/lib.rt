@@ -1,5 +1,8 @@
 // Sums of 440-bit numbers, big-endian, modulo 2^440: a number's 55 bytes and one byte behind them are seven limbs of eight bytes.
 // A limb comes and goes as an array of its own eight bytes, which makes it one load or one store. No carry is branched on.
+
+#![tactic(auto)]
+
 ghost use Rattle.std.specs.Prelude.{◌≡◌, ◌+◌, ◌/◌, ◌%◌, ◌^◌, ◌<◌, ◌≤◌, [], ◌∷◌, ◌++◌, length, take, drop};
 ghost use Rattle.standard.specs.Strings.{number_of, bytes_of};
 ghost use Rattle.sums.specs.Limbs.{string_of, value_in};

@@ -10,7 +10,7 @@ ghost use Rattle.table.specs.OnBytes.{leaving, told_refused, told_served, done};
 use slots::layout;
 use slots::slot::Slot;
 
-#[derive(Drop)]
+#[derive(Clone, Copy)]
 pub struct Told {
     pub number: u64,
     pub blocks: u64,

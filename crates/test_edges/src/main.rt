@@ -1,5 +1,8 @@
 // Line 9 of document 01's edges, and an unsound table of each kind, run on the calls themselves: what a book can't reach.
 // A line holds a name, the answer's number, blocks and value, and for a draw the SHA-256 of the lent output as it then is.
+
+#![tactic(auto)]
+
 ghost use Rattle.std.specs.Prelude.{◌≤◌, ◌<◌};
 
 use doors::{Answer, Held};

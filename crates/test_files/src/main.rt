@@ -1,4 +1,7 @@
 // Prints what comes of the files that its arguments name: one whose name ends in .book is run, any other is hashed.
+
+#![tactic(auto)]
+
 mod books;
 mod hashes;
 

@@ -1,4 +1,7 @@
 // What the test programs write to standard output: texts, numbers and digests.
+
+#![tactic(auto)]
+
 use libc::STDOUT_FILENO;
 
 pub fn print_text(s: &[u8]) {
