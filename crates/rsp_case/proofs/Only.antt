@@ -262,8 +262,8 @@ between_only : {c : Case} {end s : State} {lines : List Says} (h : Heads) (numbe
 between_only {c} {end} h number is-between (ends {x = x} e) =
     go (subst (Between h number x) (ap (λ s. takes s x) (sym is-between) ∙ e) (line-between h number x))
   where
-    go : Between h number x (whole end c) → Found h (x ∷ []) c end
-    go = elim [ ]
+    go : {x : Says} → Between h number x (whole end c) → Found h (x ∷ []) c end
+    go {x} b = elim b [ ]
 between_only {c} {end} h number is-between (goes_on {x = x} {lines = lines} e rest) =
     go (subst (Between h number x) (ap (λ s. takes s x) (sym is-between) ∙ e) (line-between h number x)) rest
     (λ h number is-between. between_only h number is-between rest)

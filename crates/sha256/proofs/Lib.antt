@@ -3,4 +3,3 @@ pub mod Feeding
 pub mod LastBlocks
 pub mod Reading
 pub mod Scratch
-pub mod Walks
