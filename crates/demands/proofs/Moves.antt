@@ -9,7 +9,7 @@ use lib.Dec.{lit<, eqb-suc-zero}
 use lib.ListN.{length}
 use Rattle.standard.specs.State.{State}
 use Rattle.standard.specs.Sha256.{sha256}
-use Rattle.standard.specs.Functions.{Mechanism, HMAC-DRBG, Hash_DRBG}
+use Rattle.standard.specs.Functions.{Mechanism, HMAC_DRBG, Hash_DRBG}
 use Rattle.standard.specs.Lengths.{Sized, state_bytes}
 use Rattle.standard.proofs.Lengths.{sized_opening, sized_reseeding, sized_draw, sized_fresh_draw, counter-opening, counter-reseeding}
 use Rattle.standard.proofs.Lengths.{counter-draw, counter-fresh_draw}
@@ -54,7 +54,7 @@ step-moves t handle st whole found sized counted =
 
 pub counter-held : (m : Mechanism) (g : Generator) → (state_of m g).counter ≡ g.counter
 unfolding state_of
-counter-held HMAC-DRBG g = refl
+counter-held HMAC_DRBG g = refl
 counter-held Hash_DRBG g = refl
 
 -- a counter one above a number within the interval

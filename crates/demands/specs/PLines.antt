@@ -7,7 +7,7 @@ use Rattle.standard.specs.Sha256.{sha256}
 use Rattle.standard.specs.State.{State}
 use Rattle.standard.specs.HashDrbg.{stepped}
 use Rattle.standard.specs.HmacDrbg.{Keyed, update}
-use Rattle.standard.specs.Functions.{Mechanism, HMAC-DRBG, Hash_DRBG, opening, draw}
+use Rattle.standard.specs.Functions.{Mechanism, HMAC_DRBG, Hash_DRBG, opening, draw}
 use Rattle.standard.specs.Lengths.{Ready, Sized, state_bytes}
 use Rattle.slots.specs.Layout.{Table, fresh_table}
 use Rattle.slots.specs.Sound.{sound}
@@ -60,7 +60,7 @@ unfoldable pub table : List Row
 table =
     hash-of 0 takes 1 ∷ hash-of 55 takes 1 ∷ hash-of 56 takes 2 ∷  -- 1
     update-with 22 takes 16 ∷ update-with 23 takes 18 ∷ update-with 0 takes 8 ∷  -- 2
-    HMAC-DRBG draw-of 0 takes 8 ∷ HMAC-DRBG draw-of 1 takes 12 ∷ HMAC-DRBG draw-of 32 takes 12 ∷ HMAC-DRBG draw-of 33 takes 16 ∷  -- 3
+    HMAC_DRBG draw-of 0 takes 8 ∷ HMAC_DRBG draw-of 1 takes 12 ∷ HMAC_DRBG draw-of 32 takes 12 ∷ HMAC_DRBG draw-of 33 takes 16 ∷  -- 3
     Hash_DRBG draw-of 32 takes 3 ∷ Hash_DRBG draw-of 33 takes 4 ∷  -- 4
     Hash_DRBG open-with 50 takes 6 ∷ Hash_DRBG open-with 51 takes 8 ∷  -- 5
     V-of replicate 55 0xff plus 1 is replicate 55 0x00 ∷  -- 6

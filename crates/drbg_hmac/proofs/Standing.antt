@@ -8,7 +8,7 @@ use Rattle.standard.specs.Metered.{Metered, return}
 use Rattle.standard.specs.State.{State}
 use Rattle.standard.specs.Strings.{ceiling, if_null}
 use Rattle.standard.specs.HmacDrbg.{Keyed, kept, update, taken, output_turns, generate}
-use Rattle.standard.specs.Functions.{HMAC-DRBG, draw}
+use Rattle.standard.specs.Functions.{HMAC_DRBG, draw}
 use Rattle.standard.specs.Sha256.{sha256}
 use Rattle.standard.proofs.Lengths.{ready-update}
 use Rattle.standard.proofs.Bound.{bounded}
@@ -41,7 +41,7 @@ module _ (s : State) (n : ℕ) (additional K v out w K₂ v₂ : List ℕ) (begu
     (begun-is : let u = keyed s.first s.second in keyed_for begun K v ≡ if_null additional (return u) (update sha256 additional u))
     (output-is : output_for output out w ≡ drawn_out (output_turns sha256 (ready K) v (ceiling n 32)) n)
     (last-is : keyed_for last K₂ v₂ ≡ update sha256 additional (keyed K w)) where
-  drawn-hmac : draw sha256 HMAC-DRBG s n additional
+  drawn-hmac : draw sha256 HMAC_DRBG s n additional
       ≡ record {
         value = record { bytes = out; state = kept (update sha256 additional (keyed K w)).value (s.counter + 1) };
         blocks = begun + output + last;
@@ -59,7 +59,7 @@ module _ (s : State) (n : ℕ) (additional K v out w K₂ v₂ : List ℕ) (begu
 
   pub served-hmac : {first second : List ℕ} → first ≡ K₂ ++ replicate 23 0 → second ≡ v₂ ++ replicate 23 0
       → record { served = led_on first second (s.counter + 1) (begun + output + last); output = out }
-      ≡ filled (draw sha256 HMAC-DRBG s n additional)
+      ≡ filled (draw sha256 HMAC_DRBG s n additional)
   unfolding filled
   served-hmac first-is second_is =
       let stands = ap (λ r. r.generator) (kept-update additional (keyed K w) K₂ v₂ last (s.counter + 1) last-is first-is second_is) in
@@ -67,4 +67,4 @@ module _ (s : State) (n : ℕ) (additional K v out w K₂ v₂ : List ℕ) (begu
 
   pub few-hmac : length s.second ≡ 32 → n ≤ 65536 → length additional ≤ 1024 → begun + output + last ≤ 8288
   few-hmac v-size request short =
-      rw drawn-hmac at ((bounded HMAC-DRBG).draw s n additional (record { first = K-size; second = v-size }) request short)
+      rw drawn-hmac at ((bounded HMAC_DRBG).draw s n additional (record { first = K-size; second = v-size }) request short)

@@ -1,7 +1,7 @@
 // HMAC_DRBG on a generator as it stands in a slot: its two fields are lent, and led on in their places. Each function hands back the blocks
 // that it has consumed.
 ghost use Rattle.std.specs.Prelude.{◌≡◌, ◌++◌, ℕ, ◌+◌, ◌≤◌, length, take, replicate};
-ghost use Rattle.standard.specs.Functions.{HMAC-DRBG, opening, reseeding, draw};
+ghost use Rattle.standard.specs.Functions.{HMAC_DRBG, opening, reseeding, draw};
 ghost use Rattle.standard.specs.Sha256.{sha256};
 ghost use Rattle.drbg_shared.specs.Generator.{Fields, state_of, served, filled, holding, led_on};
 
@@ -35,7 +35,7 @@ pub fn hmac_opened<'a>(
 ) -> u64
     requires { (length entropy.now ≤ 1024) × (length nonce.now ≤ 64) × (length personalization.now ≤ 512) }
     ensures is { led_on first.new second.new 1 result
-        ≡ served (opening sha256 HMAC-DRBG entropy.now nonce.now personalization.now) }
+        ≡ served (opening sha256 HMAC_DRBG entropy.now nonce.now personalization.now) }
     ensures sized { Fields first.new second.new }
 {
     let mut key = [0u8; 32];
@@ -55,7 +55,7 @@ pub fn hmac_reseeded<'a>(
 ) -> u64
     requires { (length entropy.now ≤ 1024) × (length additional.now ≤ 1024) }
     ensures is { (counter : ℕ) → led_on first.new second.new 1 result
-        ≡ served (reseeding sha256 HMAC-DRBG (state_of HMAC-DRBG (holding first.old second.old counter))
+        ≡ served (reseeding sha256 HMAC_DRBG (state_of HMAC_DRBG (holding first.old second.old counter))
         entropy.now additional.now) }
     ensures few { result ≤ 8288 }
     ensures sized { Fields first.new second.new }
@@ -79,7 +79,7 @@ pub fn hmac_drawn(
     requires { (length out.old ≤ 65536) × (length additional.now ≤ 1024) }
     ensures is { (counter : ℕ) →
         record { served = led_on first.new second.new (counter + 1) result; output = out.new }
-        ≡ filled (draw sha256 HMAC-DRBG (state_of HMAC-DRBG (holding first.old second.old counter))
+        ≡ filled (draw sha256 HMAC_DRBG (state_of HMAC_DRBG (holding first.old second.old counter))
         (length out.old) additional.now) }
     ensures few { result ≤ 8288 }
     ensures sized { Fields first.new second.new }

@@ -6,7 +6,7 @@ use lib.ListN.{length, take, replicate}
 use lib.Seq.{take_at}
 use Rattle.standard.specs.State.{State}
 use Rattle.standard.specs.HashDrbg as Hash
-use Rattle.standard.specs.Functions.{Mechanism, HMAC-DRBG, Hash_DRBG}
+use Rattle.standard.specs.Functions.{Mechanism, HMAC_DRBG, Hash_DRBG}
 use Rattle.standard.specs.Sha256.{sha256}
 use Rattle.standard.specs.Lengths.{Sized, state_bytes}
 use Rattle.drbg_shared.specs.Generator.{field, standing, state_of}
@@ -22,7 +22,7 @@ field-55 s size = rw size (append-nil s)
 -- a state of the right lengths stands in a slot and is found there again
 pub state_of-standing : (mechanism : Mechanism) (s : State) → Sized (state_bytes sha256 mechanism) s → state_of mechanism (standing s) ≡ s
 unfolding state_of standing
-state_of-standing HMAC-DRBG s sized =
+state_of-standing HMAC_DRBG s sized =
     let first : take 32 (field s.first) ≡ s.first =
     ap (take 32) (field-32 s.first sized.first) ∙ take_at s.first (replicate 23 0) 32 sized.first in
     let second : take 32 (field s.second) ≡ s.second =

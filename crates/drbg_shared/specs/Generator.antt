@@ -3,7 +3,7 @@
 use Rattle.std.specs.Prelude.{ℕ, ◌-◌, ◌≡◌, List, ◌++◌, length, take, replicate}
 use Rattle.standard.specs.Metered.{Metered}
 use Rattle.standard.specs.State.{State, Drawn}
-use Rattle.standard.specs.Functions.{Mechanism, HMAC-DRBG, Hash_DRBG}
+use Rattle.standard.specs.Functions.{Mechanism, HMAC_DRBG, Hash_DRBG}
 
 pub record Generator : Type 0 where
   pub first : List ℕ
@@ -28,7 +28,7 @@ Fields first second = (length first ≡ 55) × (length second ≡ 55)
 
 -- the working state that a generator holds
 unfoldable pub state_of : Mechanism → Generator → State
-state_of HMAC-DRBG g = record { first = take 32 g.first; second = take 32 g.second; counter = g.counter }
+state_of HMAC_DRBG g = record { first = take 32 g.first; second = take 32 g.second; counter = g.counter }
 state_of Hash_DRBG g = record { first = g.first; second = g.second; counter = g.counter }
 
 -- a string as a field, zeros behind it

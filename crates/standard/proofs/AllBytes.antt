@@ -14,7 +14,7 @@ use Rattle.standard.specs.HashDrbg.{stepped, seeded, hashgen_turns, hashgen}
 use Rattle.standard.specs.HashDrbg as HashDrbg
 use Rattle.standard.specs.HmacDrbg.{Keyed, kept, update, output_turns}
 use Rattle.standard.specs.HmacDrbg as HmacDrbg
-use Rattle.standard.specs.Functions.{Mechanism, HMAC-DRBG, Hash_DRBG, opening, reseeding, draw, fresh_draw}
+use Rattle.standard.specs.Functions.{Mechanism, HMAC_DRBG, Hash_DRBG, opening, reseeding, draw, fresh_draw}
 use Rattle.standard.specs.Strings.{Bytes}
 use Rattle.standard.specs.Lengths.{OfBytes}
 use Rattle.standard.proofs.Strings.{bytes-nil, bytes-cons, bytes-append, bytes_take, bytes_drop, bytes-replicate, bytes-map}
@@ -107,19 +107,19 @@ module _ (H : Hash) where
   pub of_bytes-opening : (mechanism : Mechanism) (entropy nonce personalization : List ℕ)
       → OfBytes (opening H mechanism entropy nonce personalization).value
   unfolding HmacDrbg.instantiate HashDrbg.instantiate
-  of_bytes-opening HMAC-DRBG entropy nonce personalization = of_bytes-update _ _ 1
+  of_bytes-opening HMAC_DRBG entropy nonce personalization = of_bytes-update _ _ 1
   of_bytes-opening Hash_DRBG entropy nonce personalization = of_bytes-seeded _
 
   pub of_bytes-reseeding : (mechanism : Mechanism) (s : State) (entropy additional : List ℕ)
       → OfBytes (reseeding H mechanism s entropy additional).value
   unfolding HmacDrbg.reseed HashDrbg.reseed
-  of_bytes-reseeding HMAC-DRBG s entropy additional = of_bytes-update _ _ 1
+  of_bytes-reseeding HMAC_DRBG s entropy additional = of_bytes-update _ _ 1
   of_bytes-reseeding Hash_DRBG s entropy additional = of_bytes-seeded _
 
   pub of_bytes-draw : (mechanism : Mechanism) (s : State) (n : ℕ) (additional : List ℕ) → OfBytes s
       → OfBytes (draw H mechanism s n additional).value.state
   unfolding HmacDrbg.generate HashDrbg.generate
-  of_bytes-draw HMAC-DRBG s n additional h = of_bytes-update _ _ _
+  of_bytes-draw HMAC_DRBG s n additional h = of_bytes-update _ _ _
   of_bytes-draw Hash_DRBG s n additional h = record { first = bytes-stepped H _ _; second = h.second }
 
   pub of_bytes-fresh_draw : (mechanism : Mechanism) (s : State) (n : ℕ) (entropy additional : List ℕ)
@@ -129,7 +129,7 @@ module _ (H : Hash) where
 
   pub bytes-draw : (mechanism : Mechanism) (s : State) (n : ℕ) (additional : List ℕ) → Bytes (draw H mechanism s n additional).value.bytes
   unfolding HmacDrbg.generate HashDrbg.generate hashgen
-  bytes-draw HMAC-DRBG s n additional = bytes_take n (bytes-output_turns H _ _ _)
+  bytes-draw HMAC_DRBG s n additional = bytes_take n (bytes-output_turns H _ _ _)
   bytes-draw Hash_DRBG s n additional = bytes_take n (bytes-hashgen_turns H _ _)
 
   pub bytes-fresh_draw : (mechanism : Mechanism) (s : State) (n : ℕ) (entropy additional : List ℕ)

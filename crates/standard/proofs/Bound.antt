@@ -9,7 +9,7 @@ use lib.ListN.{length, length-append}
 use Rattle.standard.specs.Strings.{ceiling}
 use Rattle.standard.specs.State.{State}
 use Rattle.standard.specs.Sha256.{sha256}
-use Rattle.standard.specs.Functions.{Mechanism, HMAC-DRBG, Hash_DRBG, opening, reseeding, draw, fresh_draw}
+use Rattle.standard.specs.Functions.{Mechanism, HMAC_DRBG, Hash_DRBG, opening, reseeding, draw, fresh_draw}
 use Rattle.standard.specs.Lengths.{Sized}
 use Rattle.standard.specs.Blocks.{update_count, open_count, reseed_count, draw_count, Bounded}
 use Rattle.standard.proofs.Counts.{opening-blocks, reseeding-blocks, draw-blocks, fresh_draw-blocks}
@@ -19,22 +19,22 @@ update_bound zero h = omega arith
 update_bound (suc d) h = omega arith
 
 open_bound : (mechanism : Mechanism) (d : ℕ) → d ≤ 2048 → open_count sha256 mechanism d ≤ 80
-open_bound HMAC-DRBG d h = update_bound d h
+open_bound HMAC_DRBG d h = update_bound d h
 open_bound Hash_DRBG d h = omega arith
 
 reseed_bound : (mechanism : Mechanism) (d : ℕ) → d ≤ 2048 → reseed_count sha256 mechanism d ≤ 80
-reseed_bound HMAC-DRBG d h = update_bound d h
+reseed_bound HMAC_DRBG d h = update_bound d h
 reseed_bound Hash_DRBG d h = omega arith
 
 plain_bound : (mechanism : Mechanism) (b : ℕ) → b ≤ 65536 → draw_count sha256 mechanism b 0 ≤ 8200
 unfolding ceiling
-plain_bound HMAC-DRBG b h = omega arith
+plain_bound HMAC_DRBG b h = omega arith
 plain_bound Hash_DRBG b h = omega arith
 
 draw_bound : (mechanism : Mechanism) (b a : ℕ) → b ≤ 65536 → a ≤ 1024 → draw_count sha256 mechanism b a ≤ 8288
 unfolding ceiling
-draw_bound HMAC-DRBG b zero h l = omega arith
-draw_bound HMAC-DRBG b (suc a) h l = omega arith
+draw_bound HMAC_DRBG b zero h l = omega arith
+draw_bound HMAC_DRBG b (suc a) h l = omega arith
 draw_bound Hash_DRBG b zero h l = omega arith
 draw_bound Hash_DRBG b (suc a) h l = omega arith
 
@@ -57,6 +57,6 @@ bounded mechanism =
 
 -- and a draw reaches it
 pub bound_reached : (s : State) (additional : List ℕ) → Sized 32 s → length additional ≡ 1024
-    → (draw sha256 HMAC-DRBG s 65536 additional).blocks ≡ 8288
+    → (draw sha256 HMAC_DRBG s 65536 additional).blocks ≡ 8288
 unfolding ceiling
-bound_reached s additional h l = draw-blocks sha256 (lit< tt) HMAC-DRBG s 65536 additional h ∙ ap (draw_count sha256 HMAC-DRBG 65536) l
+bound_reached s additional h l = draw-blocks sha256 (lit< tt) HMAC_DRBG s 65536 additional h ∙ ap (draw_count sha256 HMAC_DRBG 65536) l

@@ -20,7 +20,7 @@ use Rattle.standard.specs.HashDrbg.{seed_bytes, seeded, hashgen_turns, hashgen, 
 use Rattle.standard.specs.HashDrbg as HashDrbg
 use Rattle.standard.specs.HmacDrbg.{Keyed, update, taken, output_turns}
 use Rattle.standard.specs.HmacDrbg as HmacDrbg
-use Rattle.standard.specs.Functions.{Mechanism, HMAC-DRBG, Hash_DRBG, opening, reseeding, draw, fresh_draw}
+use Rattle.standard.specs.Functions.{Mechanism, HMAC_DRBG, Hash_DRBG, opening, reseeding, draw, fresh_draw}
 use Rattle.standard.proofs.Strings.{length-bytes_of, ceiling_unique}
 use Rattle.standard.proofs.Lengths.{blocks-padded, length-K₀, length-xored, length-hash, length-hmac, length-K₀-rekey}
 use Rattle.standard.proofs.Lengths.{length_data_hashgen_turns, length-V-output_turns, length-hash_df, length-refreshed, ready-key}
@@ -170,7 +170,7 @@ module _ (H : Hash) (w : 0 < H.word_bytes) where
   pub opening-blocks : (mechanism : Mechanism) (entropy nonce personalization : List ℕ)
       → (opening H mechanism entropy nonce personalization).blocks ≡ open_count H mechanism (length (entropy ++ (nonce ++ personalization)))
   unfolding HmacDrbg.instantiate HashDrbg.instantiate
-  opening-blocks HMAC-DRBG entropy nonce personalization =
+  opening-blocks HMAC_DRBG entropy nonce personalization =
       ap₂ ◌+◌ (key-blocks (replicate (out_bytes H) 0x00) (rw length-replicate (omega arith)))
       (add-zero _ ∙ update-blocks _ _ (ready-key H _ _ (length-replicate (out_bytes H) 0x00) (length-replicate (out_bytes H) 0x01)))
       ∙ zero-add _
@@ -179,7 +179,7 @@ module _ (H : Hash) (w : 0 < H.word_bytes) where
   pub reseeding-blocks : (mechanism : Mechanism) (s : State) (entropy additional : List ℕ) → Sized (state_bytes H mechanism) s
       → (reseeding H mechanism s entropy additional).blocks ≡ reseed_count H mechanism (length (entropy ++ additional))
   unfolding HmacDrbg.reseed HashDrbg.reseed
-  reseeding-blocks HMAC-DRBG s entropy additional h =
+  reseeding-blocks HMAC_DRBG s entropy additional h =
       ap₂ ◌+◌ (taken-blocks s h) (add-zero _ ∙ update-blocks (entropy ++ additional) _ (ready-taken H s h)) ∙ zero-add _
   reseeding-blocks Hash_DRBG s entropy additional h =
       let n : ℕ = length (entropy ++ additional) in
@@ -190,9 +190,9 @@ module _ (H : Hash) (w : 0 < H.word_bytes) where
   pub draw-blocks : (mechanism : Mechanism) (s : State) (n : ℕ) (additional : List ℕ) → Sized (state_bytes H mechanism) s
       → (draw H mechanism s n additional).blocks ≡ draw_count H mechanism n (length additional)
   unfolding HmacDrbg.generate HashDrbg.generate refreshed if_null
-  draw-blocks HMAC-DRBG s n [] h =
+  draw-blocks HMAC_DRBG s n [] h =
       omega (arith, taken-blocks s h, turns-blocks (taken H s).value (ceiling n (out_bytes H)) [] (ready-taken H s h))
-  draw-blocks HMAC-DRBG s n (b ∷ a) h =
+  draw-blocks HMAC_DRBG s n (b ∷ a) h =
       omega (
         arith,
         taken-blocks s h,
@@ -238,39 +238,39 @@ pub sha256-update-none : (u : Keyed) → Ready sha256 u → (update sha256 [] u)
 sha256-update-none = update-blocks sha256 (lit< tt) []
 
 pub sha256-hmac_open : (entropy nonce personalization : List ℕ) → let d : ℕ = length (entropy ++ (nonce ++ personalization)) in
-    0 < d → (opening sha256 HMAC-DRBG entropy nonce personalization).blocks ≡ 2 * ((d + 41) / 64) + 16
+    0 < d → (opening sha256 HMAC_DRBG entropy nonce personalization).blocks ≡ 2 * ((d + 41) / 64) + 16
 sha256-hmac_open entropy nonce personalization l =
-    opening-blocks sha256 (lit< tt) HMAC-DRBG entropy nonce personalization ∙ update_count-some sha256 _ l
+    opening-blocks sha256 (lit< tt) HMAC_DRBG entropy nonce personalization ∙ update_count-some sha256 _ l
 
-pub sha256-hmac_open_none : (opening sha256 HMAC-DRBG [] [] []).blocks ≡ 8
-sha256-hmac_open_none = opening-blocks sha256 (lit< tt) HMAC-DRBG [] [] []
+pub sha256-hmac_open_none : (opening sha256 HMAC_DRBG [] [] []).blocks ≡ 8
+sha256-hmac_open_none = opening-blocks sha256 (lit< tt) HMAC_DRBG [] [] []
 
 pub sha256-hash_open : (entropy nonce personalization : List ℕ) → let d : ℕ = length (entropy ++ (nonce ++ personalization)) in
     (opening sha256 Hash_DRBG entropy nonce personalization).blocks ≡ 2 * ((d + 13) / 64) + 6
 sha256-hash_open = opening-blocks sha256 (lit< tt) Hash_DRBG
 
 pub sha256-hmac-reseed : (s : State) (entropy additional : List ℕ) → Sized 32 s → let d : ℕ = length (entropy ++ additional) in
-    0 < d → (reseeding sha256 HMAC-DRBG s entropy additional).blocks ≡ 2 * ((d + 41) / 64) + 16
+    0 < d → (reseeding sha256 HMAC_DRBG s entropy additional).blocks ≡ 2 * ((d + 41) / 64) + 16
 sha256-hmac-reseed s entropy additional h l =
-    reseeding-blocks sha256 (lit< tt) HMAC-DRBG s entropy additional h ∙ update_count-some sha256 _ l
+    reseeding-blocks sha256 (lit< tt) HMAC_DRBG s entropy additional h ∙ update_count-some sha256 _ l
 
-pub sha256-hmac-reseed-none : (s : State) → Sized 32 s → (reseeding sha256 HMAC-DRBG s [] []).blocks ≡ 8
-sha256-hmac-reseed-none s h = reseeding-blocks sha256 (lit< tt) HMAC-DRBG s [] [] h
+pub sha256-hmac-reseed-none : (s : State) → Sized 32 s → (reseeding sha256 HMAC_DRBG s [] []).blocks ≡ 8
+sha256-hmac-reseed-none s h = reseeding-blocks sha256 (lit< tt) HMAC_DRBG s [] [] h
 
 pub sha256-hash-reseed : (s : State) (entropy additional : List ℕ) → Sized 55 s → let d : ℕ = length (entropy ++ additional) in
     (reseeding sha256 Hash_DRBG s entropy additional).blocks ≡ 2 * ((d + 5) / 64) + 8
 sha256-hash-reseed = reseeding-blocks sha256 (lit< tt) Hash_DRBG
 
-pub sha256-hmac-draw : (s : State) (b : ℕ) → Sized 32 s → (draw sha256 HMAC-DRBG s b []).blocks ≡ 4 * ceiling b 32 + 8
-sha256-hmac-draw s b = draw-blocks sha256 (lit< tt) HMAC-DRBG s b []
+pub sha256-hmac-draw : (s : State) (b : ℕ) → Sized 32 s → (draw sha256 HMAC_DRBG s b []).blocks ≡ 4 * ceiling b 32 + 8
+sha256-hmac-draw s b = draw-blocks sha256 (lit< tt) HMAC_DRBG s b []
 
 pub sha256-hash-draw : (s : State) (b : ℕ) → Sized 55 s → (draw sha256 Hash_DRBG s b []).blocks ≡ ceiling b 32 + 2
 sha256-hash-draw s b = draw-blocks sha256 (lit< tt) Hash_DRBG s b []
 
 pub sha256-hmac-draw_additional : (s : State) (b : ℕ) (additional : List ℕ) → Sized 32 s → let a : ℕ = length additional in
-    0 < a → (draw sha256 HMAC-DRBG s b additional).blocks ≡ 4 * ceiling b 32 + 4 * ((a + 41) / 64) + 32
+    0 < a → (draw sha256 HMAC_DRBG s b additional).blocks ≡ 4 * ceiling b 32 + 4 * ((a + 41) / 64) + 32
 sha256-hmac-draw_additional s b [] h l = absurd (not-suc-le-zero l)
-sha256-hmac-draw_additional s b (x ∷ additional) h l = draw-blocks sha256 (lit< tt) HMAC-DRBG s b (x ∷ additional) h
+sha256-hmac-draw_additional s b (x ∷ additional) h l = draw-blocks sha256 (lit< tt) HMAC_DRBG s b (x ∷ additional) h
 
 pub sha256-hash-draw_additional : (s : State) (b : ℕ) (additional : List ℕ) → Sized 55 s → let a : ℕ = length additional in
     0 < a → (draw sha256 Hash_DRBG s b additional).blocks ≡ ceiling b 32 + a / 64 + 4
@@ -278,9 +278,9 @@ sha256-hash-draw_additional s b [] h l = absurd (not-suc-le-zero l)
 sha256-hash-draw_additional s b (x ∷ additional) h l = draw-blocks sha256 (lit< tt) Hash_DRBG s b (x ∷ additional) h
 
 pub sha256-hmac-fresh : (s : State) (b : ℕ) (entropy additional : List ℕ) → Sized 32 s → let d : ℕ = length (entropy ++ additional) in
-    0 < d → (fresh_draw sha256 HMAC-DRBG s b entropy additional).blocks ≡ 2 * ((d + 41) / 64) + 16 + (4 * ceiling b 32 + 8)
+    0 < d → (fresh_draw sha256 HMAC_DRBG s b entropy additional).blocks ≡ 2 * ((d + 41) / 64) + 16 + (4 * ceiling b 32 + 8)
 sha256-hmac-fresh s b entropy additional h l =
-    fresh_draw-blocks sha256 (lit< tt) HMAC-DRBG s b entropy additional h
+    fresh_draw-blocks sha256 (lit< tt) HMAC_DRBG s b entropy additional h
     ∙ ap (λ (x : ℕ). x + (4 * ceiling b 32 + 8)) (update_count-some sha256 _ l)
 
 pub sha256-hash-fresh : (s : State) (b : ℕ) (entropy additional : List ℕ) → Sized 55 s → let d : ℕ = length (entropy ++ additional) in

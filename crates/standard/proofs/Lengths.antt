@@ -21,7 +21,7 @@ use Rattle.standard.specs.HashDrbg.{seed_bytes, stepped, seeded, hashgen_turns, 
 use Rattle.standard.specs.HashDrbg as HashDrbg
 use Rattle.standard.specs.HmacDrbg.{Keyed, kept, update, taken, output_turns}
 use Rattle.standard.specs.HmacDrbg as HmacDrbg
-use Rattle.standard.specs.Functions.{Mechanism, HMAC-DRBG, Hash_DRBG, opening, reseeding, draw, fresh_draw}
+use Rattle.standard.specs.Functions.{Mechanism, HMAC_DRBG, Hash_DRBG, opening, reseeding, draw, fresh_draw}
 use Rattle.standard.proofs.Strings.{length-bytes_of, ceiling-add-one, add-mod-ceiling, le-ceiling, if_null_both, cond_both}
 use Rattle.standard.specs.Lengths.{Ready, Sized, state_bytes}
 
@@ -178,19 +178,19 @@ module _ (H : Hash) where
   pub sized_opening : 0 < H.word_bytes → (mechanism : Mechanism) (entropy nonce personalization : List ℕ)
       → Sized (state_bytes H mechanism) (opening H mechanism entropy nonce personalization).value
   unfolding HmacDrbg.instantiate HashDrbg.instantiate
-  sized_opening w HMAC-DRBG entropy nonce personalization = sized_kept _ 1 (ready-update _ _)
+  sized_opening w HMAC_DRBG entropy nonce personalization = sized_kept _ 1 (ready-update _ _)
   sized_opening w Hash_DRBG entropy nonce personalization = sized_seeded w _
 
   pub sized_reseeding : 0 < H.word_bytes → (mechanism : Mechanism) (s : State) (entropy additional : List ℕ)
       → Sized (state_bytes H mechanism) (reseeding H mechanism s entropy additional).value
   unfolding HmacDrbg.reseed HashDrbg.reseed
-  sized_reseeding w HMAC-DRBG s entropy additional = sized_kept _ 1 (ready-update _ _)
+  sized_reseeding w HMAC_DRBG s entropy additional = sized_kept _ 1 (ready-update _ _)
   sized_reseeding w Hash_DRBG s entropy additional = sized_seeded w _
 
   pub sized_draw : (mechanism : Mechanism) (s : State) (n : ℕ) (additional : List ℕ) → Sized (state_bytes H mechanism) s
       → Sized (state_bytes H mechanism) (draw H mechanism s n additional).value.state
   unfolding HmacDrbg.generate HashDrbg.generate
-  sized_draw HMAC-DRBG s n additional h = sized_kept _ _ (ready-update _ _)
+  sized_draw HMAC_DRBG s n additional h = sized_kept _ _ (ready-update _ _)
   sized_draw Hash_DRBG s n additional h = record { first = length-stepped H _ _; second = h.second }
 
   pub sized_fresh_draw : 0 < H.word_bytes → (mechanism : Mechanism) (s : State) (n : ℕ) (entropy additional : List ℕ)
@@ -202,7 +202,7 @@ module _ (H : Hash) where
   pub length-draw : 0 < H.word_bytes → (mechanism : Mechanism) (s : State) (n : ℕ) (additional : List ℕ)
       → length (draw H mechanism s n additional).value.bytes ≡ n
   unfolding HmacDrbg.generate HashDrbg.generate
-  length-draw w HMAC-DRBG s n additional = length_cut H w n _ (length-output_turns H _ _ _)
+  length-draw w HMAC_DRBG s n additional = length_cut H w n _ (length-output_turns H _ _ _)
   length-draw w Hash_DRBG s n additional = length-hashgen H w n _
 
   pub length-fresh_draw : 0 < H.word_bytes → (mechanism : Mechanism) (s : State) (n : ℕ) (entropy additional : List ℕ)
@@ -214,19 +214,19 @@ module _ (H : Hash) where
   pub counter-opening : (mechanism : Mechanism) (entropy nonce personalization : List ℕ)
       → (opening H mechanism entropy nonce personalization).value.counter ≡ 1
   unfolding HmacDrbg.instantiate HashDrbg.instantiate seeded
-  counter-opening HMAC-DRBG entropy nonce personalization = refl
+  counter-opening HMAC_DRBG entropy nonce personalization = refl
   counter-opening Hash_DRBG entropy nonce personalization = refl
 
   pub counter-reseeding : (mechanism : Mechanism) (s : State) (entropy additional : List ℕ)
       → (reseeding H mechanism s entropy additional).value.counter ≡ 1
   unfolding HmacDrbg.reseed HashDrbg.reseed seeded
-  counter-reseeding HMAC-DRBG s entropy additional = refl
+  counter-reseeding HMAC_DRBG s entropy additional = refl
   counter-reseeding Hash_DRBG s entropy additional = refl
 
   pub counter-draw : (mechanism : Mechanism) (s : State) (n : ℕ) (additional : List ℕ)
       → (draw H mechanism s n additional).value.state.counter ≡ s.counter + 1
   unfolding HmacDrbg.generate HashDrbg.generate
-  counter-draw HMAC-DRBG s n additional = refl
+  counter-draw HMAC_DRBG s n additional = refl
   counter-draw Hash_DRBG s n additional = refl
 
   pub counter-fresh_draw : (mechanism : Mechanism) (s : State) (n : ℕ) (entropy additional : List ℕ)

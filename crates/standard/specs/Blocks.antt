@@ -6,7 +6,7 @@ use Rattle.standard.specs.Strings.{ceiling}
 use Rattle.standard.specs.Hash.{Hash, block_bytes, out_bytes, length_bytes}
 use Rattle.standard.specs.Sha256.{sha256}
 use Rattle.standard.specs.State.{State}
-use Rattle.standard.specs.Functions.{Mechanism, HMAC-DRBG, Hash_DRBG, opening, reseeding, draw, fresh_draw}
+use Rattle.standard.specs.Functions.{Mechanism, HMAC_DRBG, Hash_DRBG, opening, reseeding, draw, fresh_draw}
 use Rattle.standard.specs.Lengths.{Sized, state_bytes}
 
 -- a hash, and an HMAC under a key of at most a block, of n bytes
@@ -22,16 +22,16 @@ update_count H zero = 8
 update_count H (suc d) = 2 * ((suc d + (10 * H.word_bytes + 1)) / block_bytes H) + 16
 
 abbrev pub open_count : Hash → Mechanism → (d : ℕ) → ℕ
-open_count H HMAC-DRBG d = update_count H d
+open_count H HMAC_DRBG d = update_count H d
 open_count H Hash_DRBG d = 2 * ((d + (2 * H.word_bytes + 5)) / block_bytes H) + 6
 
 abbrev pub reseed_count : Hash → Mechanism → (d : ℕ) → ℕ
-reseed_count H HMAC-DRBG d = update_count H d
+reseed_count H HMAC_DRBG d = update_count H d
 reseed_count H Hash_DRBG d = 2 * ((d + 5) / block_bytes H) + 8
 
 abbrev pub draw_count : Hash → Mechanism → (b a : ℕ) → ℕ
-draw_count H HMAC-DRBG b zero = 4 * ceiling b (out_bytes H) + 8
-draw_count H HMAC-DRBG b (suc a) = 4 * ceiling b (out_bytes H) + 4 * ((suc a + (10 * H.word_bytes + 1)) / block_bytes H) + 32
+draw_count H HMAC_DRBG b zero = 4 * ceiling b (out_bytes H) + 8
+draw_count H HMAC_DRBG b (suc a) = 4 * ceiling b (out_bytes H) + 4 * ((suc a + (10 * H.word_bytes + 1)) / block_bytes H) + 32
 draw_count H Hash_DRBG b zero = ceiling b (out_bytes H) + 2
 draw_count H Hash_DRBG b (suc a) = ceiling b (out_bytes H) + suc a / block_bytes H + 4
 

@@ -8,22 +8,22 @@ use Rattle.standard.specs.HashDrbg as HashDrbg
 use Rattle.standard.specs.HmacDrbg as HmacDrbg
 
 pub data Mechanism : Type 0 where
-  HMAC-DRBG Hash_DRBG : Mechanism
+  HMAC_DRBG Hash_DRBG : Mechanism
 
 module _ (H : Hash) where
   -- 9.1, step 9
   abbrev pub opening : Mechanism → (entropy nonce personalization : List ℕ) → Metered State
-  opening HMAC-DRBG = HmacDrbg.instantiate H
+  opening HMAC_DRBG = HmacDrbg.instantiate H
   opening Hash_DRBG = HashDrbg.instantiate H
 
   -- 9.2, step 6
   abbrev pub reseeding : Mechanism → State → (entropy additional : List ℕ) → Metered State
-  reseeding HMAC-DRBG = HmacDrbg.reseed H
+  reseeding HMAC_DRBG = HmacDrbg.reseed H
   reseeding Hash_DRBG = HashDrbg.reseed H
 
   -- 9.3.1, step 8
   abbrev pub draw : Mechanism → State → (n : ℕ) (additional : List ℕ) → Metered Drawn
-  draw HMAC-DRBG = HmacDrbg.generate H
+  draw HMAC_DRBG = HmacDrbg.generate H
   draw Hash_DRBG = HashDrbg.generate H
 
   -- 9.3.1, steps 7 and 8, with prediction resistance: a reseed with the entropy and the additional input (7.1), which is then

@@ -6,7 +6,7 @@ use Rattle.standard.specs.Hash.{Hash, block_bytes, out_bytes}
 use Rattle.standard.specs.State.{State}
 use Rattle.standard.specs.HashDrbg.{seed_bytes}
 use Rattle.standard.specs.HmacDrbg.{Keyed}
-use Rattle.standard.specs.Functions.{Mechanism, HMAC-DRBG, Hash_DRBG}
+use Rattle.standard.specs.Functions.{Mechanism, HMAC_DRBG, Hash_DRBG}
 
 -- a key made ready and V, as every update leaves them
 pub record Ready (H : Hash) (u : Keyed) : Type 0 where
@@ -20,7 +20,7 @@ pub record Sized (n : ℕ) (s : State) : Type 0 where
   pub second : length s.second ≡ n
 
 abbrev pub state_bytes : Hash → Mechanism → ℕ
-state_bytes H HMAC-DRBG = out_bytes H
+state_bytes H HMAC_DRBG = out_bytes H
 state_bytes H Hash_DRBG = seed_bytes H
 
 -- a state whose two fields are of bytes

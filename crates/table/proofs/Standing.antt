@@ -13,7 +13,7 @@ use lib.ListN.{length, drop, replicate, length-append, length-replicate}
 use lib.Seq.{length-take-le, drop_at}
 use Rattle.standard.specs.State.{State}
 use Rattle.standard.specs.Sha256.{sha256}
-use Rattle.standard.specs.Functions.{Mechanism, HMAC-DRBG, Hash_DRBG}
+use Rattle.standard.specs.Functions.{Mechanism, HMAC_DRBG, Hash_DRBG}
 use Rattle.standard.specs.Lengths.{Sized, state_bytes}
 use Rattle.drbg.specs.Mechanism.{mechanism_of}
 use Rattle.drbg_shared.specs.Generator.{Generator, state_of, field, standing}
@@ -67,7 +67,7 @@ used-standing last s st u sized some most =
 -- the state in a used slot
 sized_state : (m : Mechanism) (g : Generator) → length g.first ≡ 55 → length g.second ≡ 55 → Sized (state_bytes sha256 m) (state_of m g)
 unfolding state_of
-sized_state HMAC-DRBG g a b =
+sized_state HMAC_DRBG g a b =
     record { first = length-take-le 32 g.first (omega arith); second = length-take-le 32 g.second (omega arith) }
 sized_state Hash_DRBG g a b = record { first = a; second = b }
 

@@ -7,7 +7,7 @@ use native.Mathlib.Omega.{arith}
 use lib.ListN.{length}
 use Rattle.standard.specs.State.{State}
 use Rattle.standard.specs.HmacDrbg.{reseed, update}
-use Rattle.standard.specs.Functions.{HMAC-DRBG, reseeding}
+use Rattle.standard.specs.Functions.{HMAC_DRBG, reseeding}
 use Rattle.standard.specs.Sha256.{sha256}
 use Rattle.standard.proofs.Bound.{bounded}
 use Rattle.drbg_hmac.specs.Keys.{keyed, keyed_for}
@@ -37,12 +37,12 @@ returns c =
     let read : keyed_for r.result r.new.0 r.new.1.0 ≡ update sha256 (a.entropy.now ++ (a.additional.now ++ [])) u =
     r.ensures.0 in
     let is : (counter : ℕ) → led_on first.put_front.new.0 c.put-front2.new.0 1 r.result
-    ≡ served (reseeding sha256 HMAC-DRBG (state counter) a.entropy.now a.additional.now) = λ counter.
+    ≡ served (reseeding sha256 HMAC_DRBG (state counter) a.entropy.now a.additional.now) = λ counter.
     kept-update (a.entropy.now ++ a.additional.now) u r.new.0 r.new.1.0 r.result 1
     (read ∙ ap (λ d. update sha256 d u) joined) first.put_front.ensures.0 c.put-front2.ensures.0 ∙
     sym (rw (taken-ready (state counter) K-size, zero-add, add-zero)) in
     let bound =
-    (bounded HMAC-DRBG).reseeding (state 0) a.entropy.now a.additional.now (record { first = K-size; second = v-size })
+    (bounded HMAC_DRBG).reseeding (state 0) a.entropy.now a.additional.now (record { first = K-size; second = v-size })
     (omega (arith, start.requires)) (omega (arith, start.requires)) in (
       λ counter. is counter ∙ rw (← K.ensures, ← v.ensures),
       (rw (ap (λ s. s.blocks) (is 0)) bound, (first.put_front.ensures.1, c.put-front2.ensures.1)),
