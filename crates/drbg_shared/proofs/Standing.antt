@@ -5,7 +5,6 @@ use Prim.Native.Nat.{ℕ}
 use lib.ListN.{length, take, replicate}
 use lib.Seq.{take_at}
 use Rattle.standard.specs.State.{State}
-use Rattle.standard.specs.HashDrbg as Hash
 use Rattle.standard.specs.Functions.{Mechanism, HMAC_DRBG, Hash_DRBG}
 use Rattle.standard.specs.Sha256.{sha256}
 use Rattle.standard.specs.Lengths.{Sized, state_bytes}
