@@ -1,2 +1,3 @@
 -- Laws of lines.
 pub mod Lines
+pub mod Steps

@@ -18,6 +18,7 @@ pub struct Held {
 }
 
 // Holds what stands up to the line's end, or the window's, in a lent line that holds so many characters of it already.
+#[tactic(auto, using(crate::proofs::Steps::ends_here))]
 pub fn hold(window: &[u8], from: usize, line: &mut [u8], held: usize) -> Held
     requires { (length line.old ≡ line_size) × (held ≤ line_size) × (from ≤ length window.now) }
     ensures within { (result.next ≤ length window.now) × (result.held ≤ line_size) }
