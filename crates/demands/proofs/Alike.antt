@@ -32,7 +32,7 @@ use Rattle.reasons.proofs.Allowed.{may_open, may_reseed, may_draw, may_draw-fres
 use Rattle.table.specs.Calls.{Call, reasons_of, refusal, service}
 use Rattle.table.specs.declared.answers.Told.{Told}
 use Rattle.table.proofs.Exits.{first-refuses, none-refuses}
-use Rattle.demands.specs.Calls.{answer}
+use Rattle.demands.specs.Calls.{answer, after}
 use Rattle.demands.specs.Alike.{Alike, openings, reseedings, drawings, fresh_drawings, closings, inquiries, AllAlike, none, more}
 use Rattle.demands.specs.Alike.{SameNumbers, AlikeTables, SameOutcome, told}
 use Rattle.demands.proofs.Outcome.{Outcome, outcome}
@@ -225,7 +225,7 @@ runs_alike tables t-sound u-sound none = refl
 runs_alike {t} {u} tables t-sound u-sound (more {c} {d} alike rest) =
     let same = call_alike tables t-sound u-sound alike in
     ap₂ ◌∷◌ (told_is (omega (arith, same.number)) (omega (arith, same.blocks)) (omega (arith, same.value)))
-    (runs_alike same.tables (sound-after t c t-sound) (sound-after u d u-sound) rest)
+    (runs_alike {t = after t c} {u = after u d} same.tables (sound-after t c t-sound) (sound-after u d u-sound) rest)
 
 pub runs_from_fresh_alike : {cs ds : List Call} → AllAlike cs ds → told fresh_table cs ≡ told fresh_table ds
 runs_from_fresh_alike = runs_alike (record { last = refl; slots = λ i. same_itself (slot_at fresh_table i) }) sound-fresh sound-fresh

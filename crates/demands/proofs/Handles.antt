@@ -87,7 +87,11 @@ last-moved {t} (ends handle whole named) = rw last_serial-with_slot (le_refl (la
 
 -- a handle given out has the next serial
 pub issued-serial : {t u : Table} {hs : List ℕ} (h : ℕ) → Moves t hs u → Listed h hs → h / 16 ≡ last_serial t + 1
+issued-serial {t} h stays l = elim l [ ]
 issued-serial {t} h (adds s whole room used serial) here = handle-serial (last_serial t + 1) (lowest_free t 0 16) room
+issued-serial {t} h (adds s whole room used serial) (there l) = elim l [ ]
+issued-serial {t} h (steps handle s whole named used serial) l = elim l [ ]
+issued-serial {t} h (ends handle whole named) l = elim l [ ]
 
 not-next : {k last : ℕ} → k ≤ last → k ≡ last + 1 → ⊥
 not-next h l = omega arith
@@ -107,6 +111,7 @@ module _ (h : ℕ) where
   gone t (c ∷ cs) old none = gone (after t c) cs (le_then old (last-moved (moved t c))) (gone_after t c old none)
 
   listed_first : (hs ks : List ℕ) → Listed h hs → Listed h (hs ++ ks)
+  listed_first [] ks l = elim l [ ]
   listed_first (n ∷ hs) ks here = here
   listed_first (n ∷ hs) ks (there l) = there (listed_first hs ks l)
 
@@ -165,6 +170,7 @@ lt-then : {a b c : ℕ} → a < b → b < c → a < c
 lt-then h l = omega arith
 
 pub above : {n h : ℕ} {hs : List ℕ} → Rising n hs → Listed h hs → n < h / 16
+above H.none l = elim l [ ]
 above (H.more less r) here = less
 above (H.more less r) (there l) = lt-then less (above r l)
 

@@ -19,7 +19,7 @@ use Rattle.slots.specs.Layout.{free_slot, with_slot, last_serial, with_last_seri
 use Rattle.slots.specs.Sound.{sound}
 use Rattle.slots.specs.Handle.{handle_of, slot_of, names, look_up, named, lowest_free}
 use Rattle.slots.specs.declared.slot.Slot.{Slot}
-use Rattle.slots.proofs.Soundness.{Used, used_sound, free-sound, sound-fresh, sound-with_slot, sound-opened}
+use Rattle.slots.proofs.Soundness.{Used, used_so, free-sound, sound-fresh, sound-with_slot, sound-opened}
 use Rattle.slots.proofs.Handles.{named-is, sound-named, lowest_most}
 use Rattle.table.specs.Answers.{Reply, stepped, installed, with_generator, generator_of}
 use Rattle.table.specs.Served.{mechanism_in, state_in}
@@ -113,9 +113,9 @@ moved t c = go c (outcome t c)
 pub sound-moved : {t u : Table} {hs : List ℕ} → Moves t hs u → sound t ≡ true → sound u ≡ true
 sound-moved stays h = h
 sound-moved {t} (adds s whole room used serial) h =
-    sound-opened t (lowest_free t 0 16) (last_serial t + 1) s h (omega arith) (used_sound (last_serial t + 1) s used)
+    sound-opened t (lowest_free t 0 16) (last_serial t + 1) s h (omega arith) (used_so (last_serial t + 1) s used)
 sound-moved {t} (steps handle s whole is used serial) h =
-    sound-with_slot t (handle % 16) s h (used_sound (last_serial t) s used)
+    sound-with_slot t (handle % 16) s h (used_so (last_serial t) s used)
 sound-moved {t} (ends handle whole is) h = sound-with_slot t (handle % 16) free_slot h (free-sound (last_serial t))
 
 pub sound-after : (t : Table) (c : Call) → sound t ≡ true → sound (after t c) ≡ true

@@ -29,7 +29,7 @@ use Rattle.demands.proofs.Answered.{number-first, fresh-answered}
 use Rattle.demands.proofs.Handles.{unnamed_2}
 use Rattle.demands.proofs.Standard.{open_standard}
 use Rattle.demands.specs.PLines.{Row, hash_of◌takes◌, update_with◌takes◌, ◌draw_of◌takes◌, ◌open_with◌takes◌, V_of◌plus◌is◌}
-use Rattle.demands.specs.PLines.{strength◌gives◌, strength_refused, on_a_fresh_table◌is_answered◌, the_first_handle_is◌, Holds, table}
+use Rattle.demands.specs.PLines.{strength◌gives◌, strength◌refused, on_a_fresh_table◌is_answered◌, the_first_handle_is◌, Holds, table}
 use Rattle.demands.specs.PLines.{All, none, more}
 
 -- what the reasons say of an opening on the fresh table
@@ -38,28 +38,28 @@ decides asked entropy nonce mechanism = first_of (open_reasons true mechanism as
 
 -- the two sides of a row
 computed : Row → List ℕ
-computed (hash-of n takes k) = hash_count sha256 n ∷ []
-computed (update-with n takes k) = update_count sha256 n ∷ []
-computed (mechanism draw-of n takes k) = draw_count sha256 mechanism n 0 ∷ []
-computed (mechanism open-with n takes k) = open_count sha256 mechanism n ∷ []
-computed (V-of v plus n is sum) = HashDrbg.stepped sha256 v n
+computed (hash_of n takes k) = hash_count sha256 n ∷ []
+computed (update_with n takes k) = update_count sha256 n ∷ []
+computed (mechanism draw_of n takes k) = draw_count sha256 mechanism n 0 ∷ []
+computed (mechanism open_with n takes k) = open_count sha256 mechanism n ∷ []
+computed (V_of v plus n is sum) = HashDrbg.stepped sha256 v n
 computed (strength asked gives given) =
     rounded asked ∷ decides asked (given / 8) (given / 16) 1 ∷ decides asked (given / 8) (given / 16) 2
     ∷ decides asked (given / 8) (given / 16 - 1) 1 ∷ decides asked (given / 8) (given / 16 - 1) 2 ∷ []
 computed (strength asked refused) = cond (ltb 256 asked) 4 0 ∷ []
-computed (on-a-fresh-table h is-answered k) = number fresh_table (closes h) ∷ []
-computed (the-first-handle-is h) = handle_of (last_serial fresh_table + 1) (lowest_free fresh_table 0 16) ∷ []
+computed (on_a_fresh_table h is_answered k) = number fresh_table (closes h) ∷ []
+computed (the_first_handle_is h) = handle_of (last_serial fresh_table + 1) (lowest_free fresh_table 0 16) ∷ []
 
 stated : Row → List ℕ
-stated (hash-of n takes k) = k ∷ []
-stated (update-with n takes k) = k ∷ []
-stated (mechanism draw-of n takes k) = k ∷ []
-stated (mechanism open-with n takes k) = k ∷ []
-stated (V-of v plus n is sum) = sum
+stated (hash_of n takes k) = k ∷ []
+stated (update_with n takes k) = k ∷ []
+stated (mechanism draw_of n takes k) = k ∷ []
+stated (mechanism open_with n takes k) = k ∷ []
+stated (V_of v plus n is sum) = sum
 stated (strength asked gives given) = given ∷ 0 ∷ 0 ∷ 9 ∷ 9 ∷ []
 stated (strength asked refused) = 4 ∷ []
-stated (on-a-fresh-table h is-answered k) = k ∷ []
-stated (the-first-handle-is h) = h ∷ []
+stated (on_a_fresh_table h is_answered k) = k ∷ []
+stated (the_first_handle_is h) = h ∷ []
 
 place : ℕ → List ℕ → ℕ
 place i s = get_or s i 0
@@ -92,12 +92,12 @@ one_less n k h = omega (arith, h)
 
 holds : (r : Row) → computed r ≡ stated r → Holds r
 unfolding place computed stated decides open_reasons
-holds (hash-of n takes k) same = λ m h. hash-blocks sha256 (lit< tt) m ∙ ap (hash_count sha256) h ∙ ap (place 0) same
-holds (update-with n takes k) same = λ d u h ready. update-blocks sha256 (lit< tt) d u ready ∙ ap (update_count sha256) h ∙ ap (place 0) same
-holds (mechanism draw-of n takes k) same = λ s sized. draw-blocks sha256 (lit< tt) mechanism s n [] sized ∙ ap (place 0) same
-holds (mechanism open-with n takes k) same =
+holds (hash_of n takes k) same = λ m h. hash-blocks sha256 (lit< tt) m ∙ ap (hash_count sha256) h ∙ ap (place 0) same
+holds (update_with n takes k) same = λ d u h ready. update-blocks sha256 (lit< tt) d u ready ∙ ap (update_count sha256) h ∙ ap (place 0) same
+holds (mechanism draw_of n takes k) same = λ s sized. draw-blocks sha256 (lit< tt) mechanism s n [] sized ∙ ap (place 0) same
+holds (mechanism open_with n takes k) same =
     λ e n p h. opening-blocks sha256 (lit< tt) mechanism e n p ∙ ap (open_count sha256 mechanism) h ∙ ap (place 0) same
-holds (V-of v plus n is sum) same = same
+holds (V_of v plus n is sum) same = same
 holds (strength asked gives given) same = (
   λ t m i f e n p so. ap (λ (s : Slot). s.strength) (open_standard t m asked i f e n p so).slot ∙ ap (place 0) same,
   λ m kind e n es.
@@ -112,11 +112,11 @@ holds (strength asked refused) same =
     λ t m i f e n p whole kind.
     number-first t (opens m asked i f e n p)
     (first-is _ 3 (third _ whole (known kind) (is_true (ltb 256 asked) (ap (place 0) same))))
-holds (on-a-fresh-table h is-answered k) same =
+holds (on_a_fresh_table h is_answered k) same =
     λ c under.
     unnamed_2 fresh_table h sound-fresh (names_fresh h) c under
     ∙ sym (unnamed_2 fresh_table h sound-fresh (names_fresh h) (closes h) close) ∙ ap (place 0) same
-holds (the-first-handle-is h) same =
+holds (the_first_handle_is h) same =
     λ m s i f e n p so. (open_standard fresh_table m s i f e n p so).handle ∙ ap (place 0) same
 
 -- lines 1 to 8 hold

@@ -20,6 +20,7 @@ less_not h e = omega arith
 
 -- of rising handles two with one serial are one
 one-serial : {n g h : ℕ} {hs : List ℕ} → Rising n hs → Listed g hs → Listed h hs → g / 16 ≡ h / 16 → g ≡ h
+one-serial H.none k l e = elim k [ ]
 one-serial (H.more less r) here here e = refl
 one-serial (H.more less r) here (there l) e = absurd (less_not (above r l) e)
 one-serial (H.more less r) (there k) here e = absurd (less_not (above r k) (sym e))
