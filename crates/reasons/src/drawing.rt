@@ -6,6 +6,7 @@ ghost use Rattle.reasons.specs.Checks.{draw_reasons};
 use crate::or_else;
 
 // `own` is the generator's own strength.
+#[tactic(auto, unfolding(crate::specs::Checks::draw_reasons, crate::specs::Reasons::first_of))]
 pub fn draw_reason(
     own: u16,
     interval: u64,

@@ -6,6 +6,7 @@ ghost use Rattle.reasons.specs.Checks.{fresh_draw_reasons};
 use crate::or_else;
 
 // `own` is the generator's own strength, and `fresh` its right to fresh draws.
+#[tactic(auto, unfolding(crate::specs::Checks::fresh_draw_reasons, crate::specs::Reasons::first_of))]
 pub fn fresh_draw_reason(
     own: u16,
     fresh: u8,

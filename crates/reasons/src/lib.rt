@@ -29,6 +29,7 @@ fn or_else(reason: u64, holds: bool, number: u64) -> u64
 }
 
 // The strength of an opening, rounded up.
+#[tactic(auto, unfolding(crate::specs::Checks::rounded))]
 pub fn rounded(strength: u64) -> u16
     ensures { result ≡ rounded strength }
 {

@@ -6,6 +6,7 @@ ghost use Rattle.reasons.specs.Checks.{open_reasons};
 use crate::{or_else, rounded};
 
 // `slot` is the lowest free one, 16 where there is none, and `last` the last serial.
+#[tactic(auto, unfolding(crate::specs::Checks::open_reasons, crate::specs::Reasons::first_of))]
 pub fn open_reason(
     mechanism: u64,
     strength: u64,

@@ -6,6 +6,7 @@ ghost use Rattle.reasons.specs.Checks.{reseed_reasons};
 use crate::or_else;
 
 // `own` is the generator's own strength.
+#[tactic(auto, unfolding(crate::specs::Checks::reseed_reasons, crate::specs::Reasons::first_of))]
 pub fn reseed_reason(own: u16, entropy: usize, additional: usize) -> u64
     ensures { result ≡ first_of (reseed_reasons true true own entropy additional) }
 {
