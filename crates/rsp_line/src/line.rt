@@ -151,6 +151,7 @@ fn field(s: &[u8]) -> Said
 }
 
 // A line, without its end.
+#[tactic(auto, unfolding(crate::specs::Lines::says))]
 pub fn read(s: &[u8]) -> Said
     ensures says { says_of s.now result ≡ says s.now }
     ensures digits { DigitsIn s.now result }
