@@ -28,6 +28,7 @@ pub enum Next {
 }
 
 // The published order.
+#[tactic(auto, unfolding(crate::specs::Points::follows))]
 fn follows(last: u64, name: u64) -> bool
     ensures { result ≡ follows last name }
 {
@@ -55,6 +56,7 @@ fn behind(p: Point, last: u64) -> Point
 }
 
 // A heading, which stands between cases.
+#[tactic(auto, unfolding(crate::specs::Points::headed))]
 pub fn headed(p: Point, heads: Heads) -> Next
     ensures { result ≡ headed p heads }
 {
@@ -70,6 +72,7 @@ pub fn headed(p: Point, heads: Heads) -> Next
 }
 
 // COUNT: a case begins.
+#[tactic(auto, unfolding(crate::specs::Points::counted))]
 pub fn counted(p: Point, number: u64) -> Next
     ensures { result ≡ counted p number }
 {
@@ -86,6 +89,7 @@ pub fn counted(p: Point, number: u64) -> Next
 }
 
 // A field under another hash.
+#[tactic(auto, unfolding(crate::specs::Points::passed))]
 fn passed(p: Point, name: u64) -> Next
     ensures { result ≡ passed p name }
 {
@@ -97,6 +101,7 @@ fn passed(p: Point, name: u64) -> Next
 }
 
 // A field under our hash, which stands where it may.
+#[tactic(auto, unfolding(crate::specs::Points::taken))]
 fn taken(p: Point, name: u64) -> Next
     ensures { result ≡ taken p name }
 {
@@ -109,6 +114,7 @@ fn taken(p: Point, name: u64) -> Next
 }
 
 // A field of n bytes, where so many are held of the case so far.
+#[tactic(auto, unfolding(crate::specs::Points::given))]
 pub fn given(p: Point, held: usize, name: u64, n: usize) -> Next
     requires { (held ≤ 65536) × (n < 2048) }
     ensures is { result ≡ given p held name n }
