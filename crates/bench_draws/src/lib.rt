@@ -39,8 +39,8 @@ pub extern "C" fn purangsa_bench_open<'a>(
     first: &mut [u8],
     second: &mut [u8],
 ) -> u64
-    ensures { record { first = first.exit.now; second = second.new; blocks = result; output = [] }
-        ≡ opened_in mechanism entropy.now nonce.now first.entry.now second.old }
+    ensures { record { first = first.new; second = second.new; blocks = result; output = [] }
+        ≡ opened_in mechanism entropy.now nonce.now first.old second.old }
 {
     if !in_limits(
         first.len(),
@@ -70,8 +70,8 @@ pub extern "C" fn purangsa_bench_draw(
     additional: &[u8],
     out: &mut [u8],
 ) -> u64
-    ensures { record { first = first.exit.now; second = second.new; blocks = result; output = out.new }
-        ≡ drawn_in mechanism first.entry.now second.old counter additional.now out.old }
+    ensures { record { first = first.new; second = second.new; blocks = result; output = out.new }
+        ≡ drawn_in mechanism first.old second.old counter additional.now out.old }
 {
     if !in_limits(
         first.len(),
