@@ -10,8 +10,8 @@ ghost use Rattle.runner.specs.Run.{output_size, line_size, text_size, Answers, R
 
 use book::record::{Record, RecordAt};
 use book::{line, record, string};
-use libc::STDOUT_FILENO;
 use slots::sizes;
+use std::io;
 use table::answers::Told;
 
 // Room for the longest request, for the longest line, and for the text: a piece ends with the line that passes ENOUGH bytes.
@@ -219,21 +219,19 @@ fn run_first(table: &mut [u8], book: &[u8], out: &mut [u8], text: &mut [u8]) -> 
     run_some(table, book, 0, out, text)
 }
 
-// The whole book, of any size; false where a write failed, and then nothing more is run. What is written here is promised by run_first
-// and run_some; that it is written no contract can say.
-pub fn run(book: &[u8]) -> bool {
+// The whole book, of any size; at a write that fails its error, and then nothing more is run. What is written here is promised by
+// run_first and run_some; that it is written no contract can say.
+pub fn run(rt: &impl Print, book: &[u8]) -> io::Result<()> {
     let mut table = [0u8; sizes::TABLE];
     let mut out = [0u8; OUTPUT];
     let mut text = [0u8; TEXT];
     let mut piece = run_first(&mut table, book, &mut out, &mut text);
     loop {
         let end = piece.end;
-        if !io::write_all(STDOUT_FILENO, &text[..end]) {
-            return false;
-        }
+        rt.write_all(&text[..end])?;
         let at = piece.next;
         if book.len() <= at {
-            return true;
+            return Ok(());
         }
         piece = run_some(&mut table, book, at, &mut out, &mut text);
     }
