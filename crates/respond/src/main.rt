@@ -8,7 +8,12 @@ mod telling;
 
 ghost use Rattle.io.specs.Counts.{IsPrefixLen};
 
-use libc::STDIN_FILENO;
+use std::env::{Env, FillError};
+use std::fs::File;
+use std::str;
+
+// More than a file's name may have.
+const WORD: usize = 4096;
 
 // What the words so far have said: the mechanism (0 where none has), whether one named a file, and whether the run goes on.
 #[derive(Clone, Copy)]
@@ -19,14 +24,25 @@ pub struct Words {
 }
 
 // Puts a word at the front of the buffer. One that does not fit is cut to the whole buffer, which is more than a file's name may have.
-fn word_at(i: usize, buffer: &mut [u8]) -> usize
+fn word_at(rt: &HostRuntime, i: usize, buffer: &mut [u8]) -> usize
     ensures { IsPrefixLen result buffer.new }
 {
-    let n = os::arg(i, buffer);
-    if os::errno() == libc::ENAMETOOLONG {
-        return buffer.len();
+    match rt.arg(i, buffer) {
+        Ok(n) => n,
+        Err(FillError::TooLong) => buffer.len(),
+        Err(FillError::NotPresent) => 0,
     }
-    n
+}
+
+// How many words there are, the program's name among them.
+fn word_count(rt: &HostRuntime) -> usize {
+    let mut none = [0u8; 1];
+    for i in 0..usize::MAX {
+        if let Err(FillError::NotPresent) = rt.arg(i, &mut none) {
+            return i;
+        }
+    }
+    usize::MAX
 }
 
 // The mechanism that a word sets, or 0.
@@ -42,25 +58,28 @@ fn mechanism_of(word: &[u8]) -> u64 {
 }
 
 // Reports on the file of a name; false where nothing more is to be run.
-fn report_named(mechanism: u64, name: &[u8]) -> bool {
+fn report_named(rt: &HostRuntime, mechanism: u64, name: &[u8]) -> bool {
     if mechanism == 0 {
-        telling::no_mechanism_before(name);
+        telling::no_mechanism_before(rt, name);
         return false;
     }
-    let fd = os::open_read(name);
-    if fd < 0 {
-        telling::failed(name);
+    let Ok(path) = str::from_utf8(name) else {
+        telling::of_file(rt, name, b": the name is not UTF-8\n");
         return false;
+    };
+    match File::open(rt, path) {
+        Ok(mut file) => reading::report_file(rt, mechanism, &mut file, name),
+        Err(why) => {
+            telling::failed(rt, name, why);
+            false
+        }
     }
-    let going = reading::report_file(mechanism, fd, name);
-    libc::close(fd);
-    going
 }
 
 // Behind the next word.
-fn take_word(i: usize, was: Words) -> Words {
-    let mut buffer = io::buffer();
-    let n = word_at(i, &mut buffer);
+fn take_word(rt: &HostRuntime, i: usize, was: Words) -> Words {
+    let mut buffer = [0u8; WORD];
+    let n = word_at(rt, i, &mut buffer);
     let said = mechanism_of(&buffer[..n]);
     if said != 0 {
         return Words {
@@ -70,7 +89,7 @@ fn take_word(i: usize, was: Words) -> Words {
         };
     }
     let mechanism = was.mechanism;
-    let going = report_named(mechanism, &buffer[..n]);
+    let going = report_named(rt, mechanism, &buffer[..n]);
     Words {
         mechanism,
         named: true,
@@ -79,27 +98,27 @@ fn take_word(i: usize, was: Words) -> Words {
 }
 
 // Behind all words: where none named a file standard input is read.
-fn end_words(was: Words) {
+fn end_words(rt: &HostRuntime, was: Words) {
     if was.mechanism == 0 {
-        telling::no_mechanism();
+        telling::no_mechanism(rt);
         return;
     }
     if !was.named {
-        reading::report_file(was.mechanism, STDIN_FILENO, b"standard input");
+        reading::report_file(rt, was.mechanism, &mut rt.stdin(), b"standard input");
     }
 }
 
-fn main() {
+fn main(rt: HostRuntime) {
     let mut words = Words {
         mechanism: 0,
         named: false,
         going: true,
     };
-    for i in 1..os::arg_count() {
-        words = take_word(i, words);
+    for i in 1..word_count(&rt) {
+        words = take_word(&rt, i, words);
         if !words.going {
             return;
         }
     }
-    end_words(words);
+    end_words(&rt, words);
 }

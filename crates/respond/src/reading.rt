@@ -7,8 +7,8 @@ ghost use Rattle.respond.specs.Reading.{Going, GoesOn, window_size};
 
 use crate::telling;
 use file_lines::LINE;
-use libc::STDOUT_FILENO;
 use responses::{Progress, STORE, TEXT};
+use std::io::{Read, Write};
 
 const WINDOW: usize = 65536;
 
@@ -16,31 +16,31 @@ const WINDOW: usize = 65536;
 const MOST: u64 = 9223372036854775808;
 
 // Writes a piece of the report; false where nothing more is to be run.
-fn write_piece(piece: &[u8], stopped: bool, name: &[u8]) -> bool
+fn write_piece(rt: &HostRuntime, piece: &[u8], stopped: bool, name: &[u8]) -> bool
     ensures { result ≡ true → stopped ≡ false }
 {
-    if !io::write_all(STDOUT_FILENO, piece) {
-        telling::unwritten();
+    if let Err(why) = rt.stdout().write_all(piece) {
+        telling::unwritten(rt, why);
         return false;
     }
     if stopped {
-        telling::of_file(name, b": this line can't be read\n");
+        telling::of_file(rt, name, b": this line can't be read\n");
         return false;
     }
     true
 }
 
 // Behind a piece, which is written. The reading is stopped where nothing more is to be run.
-fn behind_piece(p: Progress, piece: &[u8], name: &[u8]) -> Progress
+fn behind_piece(rt: &HostRuntime, p: Progress, piece: &[u8], name: &[u8]) -> Progress
     ensures { result.stopped ≡ false → (result ≡ p) × (p.stopped ≡ false) × (p.lines ≤ 2 ^ 63) }
 {
     let mut next = p;
-    if !write_piece(piece, p.stopped, name) {
+    if !write_piece(rt, piece, p.stopped, name) {
         next.stopped = true;
         return next;
     }
     if MOST < p.lines {
-        telling::of_file(name, b": too many lines\n");
+        telling::of_file(rt, name, b": too many lines\n");
         next.stopped = true;
     }
     next
@@ -48,6 +48,7 @@ fn behind_piece(p: Progress, piece: &[u8], name: &[u8]) -> Progress
 
 // Reports on what was read into the window.
 fn report_window(
+    rt: &HostRuntime,
     mechanism: u64,
     was: Progress,
     window: &[u8],
@@ -56,7 +57,7 @@ fn report_window(
     text: &mut [u8],
     name: &[u8],
 ) -> Progress
-    requires going_2 { Going was × (length window.now ≤ window_size) }
+    requires going { Going was × (length window.now ≤ window_size) }
     requires line_len { (length line.old ≡ line_size) × (length store.old ≡ store_size) × (length text.old ≡ text_size) }
     ensures going { result.stopped ≡ false → Going result }
     ensures on { result.stopped ≡ false → GoesOn mechanism was store.old line.old window.now
@@ -68,7 +69,7 @@ fn report_window(
         let piece = responses::report_some(mechanism, progress, window, at, line, store, text);
         let end = piece.end;
         let next = piece.progress;
-        progress = behind_piece(next, &text[..end], name);
+        progress = behind_piece(rt, next, &text[..end], name);
         if progress.stopped {
             return progress;
         }
@@ -79,6 +80,7 @@ fn report_window(
 
 // Reports on the file's end.
 fn report_rest(
+    rt: &HostRuntime,
     mechanism: u64,
     was: Progress,
     line: &[u8],
@@ -91,12 +93,12 @@ fn report_rest(
 {
     let ended = responses::report_end(mechanism, was, line, store, text);
     let end = ended.end;
-    write_piece(&text[..end], ended.stopped, name)
+    write_piece(rt, &text[..end], ended.stopped, name)
 }
 
 // Reports on a whole file; false where nothing more is to be run. The buffers take 140 KB of the stack, whatever the file's size. A proved
 // loop has to end, and nothing says that a file does: so the reads are counted down.
-pub fn report_file(mechanism: u64, fd: i32, name: &[u8]) -> bool {
+pub fn report_file<F: Read>(rt: &HostRuntime, mechanism: u64, file: &mut F, name: &[u8]) -> bool {
     let mut window = [0u8; WINDOW];
     let mut line = [0u8; LINE];
     let mut store = [0u8; STORE];
@@ -105,16 +107,18 @@ pub fn report_file(mechanism: u64, fd: i32, name: &[u8]) -> bool {
     let mut reads = MOST;
     while 0 < reads {
         reads -= 1;
-        let got = libc::read(fd, &mut window);
-        if got < 0 {
-            telling::failed(name);
-            return false;
-        }
-        let n = io::count(got, &window);
+        let n = match file.read(&mut window) {
+            Ok(n) => n,
+            Err(why) => {
+                telling::failed(rt, name, why);
+                return false;
+            }
+        };
         if n == 0 {
-            return report_rest(mechanism, progress, &line, &mut store, &mut text, name);
+            return report_rest(rt, mechanism, progress, &line, &mut store, &mut text, name);
         }
         progress = report_window(
+            rt,
             mechanism,
             progress,
             &window[..n],
@@ -127,6 +131,6 @@ pub fn report_file(mechanism: u64, fd: i32, name: &[u8]) -> bool {
             return false;
         }
     }
-    telling::of_file(name, b": too long\n");
+    telling::of_file(rt, name, b": too long\n");
     false
 }
