@@ -34,6 +34,7 @@ pub fn handle_of(serial: u32, i: usize) -> u64
 }
 
 // The lowest free slot of those from `from` to `to`, or `to`.
+#[tactic(auto, using(crate::proofs::Handles::lowest_here, crate::proofs::Handles::lowest_next, crate::proofs::Handles::lowest_none))]
 pub fn lowest_free(table: &[u8], from: usize, to: usize) -> usize
     requires { (length table.now ≡ table_size) × (from ≤ to) × (to ≤ 16) }
     ensures { result ≡ lowest_free (table_of table.now) from (to - from) }

@@ -14,7 +14,7 @@ pub loop-i-preserved : goal.loop-i-preserved
 loop-i-preserved c =
     let t = table_of c.args.table.now in
     ap (λ b. c.loop-i.all && b) c.slot_is_sound-all.ensures ∙
-    sound_more t c.loop-i.i _ _ c.loop-i.all c.loop-i.invariant (slot_read c.args.table.now c.loop-i.i c.loop-i-test.true)
+    sound_more t c.loop-i.i _ _ c.loop-i.all c.loop-i.invariant (slot_read c.args.table.now c.loop-i.i (omega arith))
     c.last_serial-last.ensures
 
 pub returns : goal.returns
