@@ -6,7 +6,8 @@ use Rattle.slots.proofs.handle.lowest_free.Given as goal
 
 abbrev pub invariant-loop-i : goal.invariant-loop-i
 invariant-loop-i l =
-    (l.from ≤ l.i) × (l.i ≤ l.to) × (lowest_free (table_of l.table) l.i (l.to - l.i) ≡ lowest_free (table_of l.table) l.from (l.to - l.from))
+    (l.from ≤ l.i) × (l.i ≤ l.to) ×
+    (lowest_free (table_of l.table) l.i (l.to - l.i) ≡ lowest_free (table_of l.table) l.from (l.to - l.from))
 
 abbrev pub decreases-loop-i : goal.decreases-loop-i
 decreases-loop-i l = l.to - l.i
