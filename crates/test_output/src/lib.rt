@@ -1,25 +1,27 @@
-// What the test programs write to standard output: texts, numbers and digests.
+// What the test programs write to standard output: texts, numbers and digests. A write that fails is its error.
 
 #![tactic(auto)]
 
-use libc::STDOUT_FILENO;
+use std::io;
 
-pub fn print_text(s: &[u8]) {
-    io::write_all(STDOUT_FILENO, s);
+pub fn print_text(rt: &impl Print, s: &[u8]) -> io::Result<()> {
+    rt.write_all(s)
 }
 
 // A space, and the number in decimal.
-pub fn print_number(n: u64) {
-    print_text(b" ");
-    io::print_decimal(STDOUT_FILENO, n);
+pub fn print_number(rt: &impl Print, n: u64) -> io::Result<()> {
+    print_text(rt, b" ")?;
+    print!(rt; "{n}")
 }
 
 fn wide(b: u8) -> u64 {
     b as u64
 }
 
-pub fn print_bytes(bytes: [u8; 32]) {
+pub fn print_bytes(rt: &impl Print, bytes: [u8; 32]) -> io::Result<()> {
     for i in 0..32 {
-        io::print_hex(STDOUT_FILENO, wide(bytes[i]), 2);
+        let b = wide(bytes[i]);
+        print!(rt; "{b:02x}")?;
     }
+    Ok(())
 }
