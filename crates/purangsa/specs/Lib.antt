@@ -1,0 +1,2 @@
+-- What is promised of the bytes that were read.
+pub mod Counts
