@@ -1,4 +1,5 @@
 // Runs a book: its lines, below its name.
+use std::io;
 use test_output::print_text;
 
 // Whether a file's name ends in .book.
@@ -14,8 +15,8 @@ pub fn is_book(name: &[u8]) -> bool {
         & (name[n - 1] == b'k')
 }
 
-pub fn print_run(name: &[u8], book: &[u8]) {
-    print_text(name);
-    print_text(b"\n");
-    runner::run(book);
+pub fn print_run(rt: &impl Print, name: &[u8], book: &[u8]) -> io::Result<()> {
+    print_text(rt, name)?;
+    print_text(rt, b"\n")?;
+    runner::run(rt, book)
 }

@@ -7,16 +7,17 @@ ghost use Rattle.sha256.specs.Values.{digest_of};
 
 use sha256::running;
 use sha256::running::{Digest, Running};
+use std::io;
 use test_output::{print_bytes, print_number, print_text};
 
-fn print_line(name: &[u8], size: usize, d: Digest) {
-    print_text(name);
-    print_number(size as u64);
-    print_number(d.blocks);
-    print_text(b" ");
+fn print_line(rt: &impl Print, name: &[u8], size: usize, d: Digest) -> io::Result<()> {
+    print_text(rt, name)?;
+    print_number(rt, size as u64)?;
+    print_number(rt, d.blocks)?;
+    print_text(rt, b" ")?;
     let bytes = d.bytes;
-    print_bytes(bytes);
-    print_text(b"\n");
+    print_bytes(rt, bytes)?;
+    print_text(rt, b"\n")
 }
 
 // The hash of s, fed in pieces of `size` bytes.
@@ -35,17 +36,17 @@ fn in_pieces(s: &[u8], size: usize) -> Digest
     h.finish().digest()
 }
 
-fn print_pieces(name: &[u8], message: &[u8], size: usize)
+fn print_pieces(rt: &impl Print, name: &[u8], message: &[u8], size: usize) -> io::Result<()>
     requires { 0 < size }
 {
-    print_line(name, size, in_pieces(message, size));
+    print_line(rt, name, size, in_pieces(message, size))
 }
 
-pub fn print_all(name: &[u8], message: &[u8]) {
-    print_line(name, 0, running::hash_of(message));
-    print_pieces(name, message, 1);
-    print_pieces(name, message, 63);
-    print_pieces(name, message, 64);
-    print_pieces(name, message, 65);
-    print_pieces(name, message, 200);
+pub fn print_all(rt: &impl Print, name: &[u8], message: &[u8]) -> io::Result<()> {
+    print_line(rt, name, 0, running::hash_of(message))?;
+    print_pieces(rt, name, message, 1)?;
+    print_pieces(rt, name, message, 63)?;
+    print_pieces(rt, name, message, 64)?;
+    print_pieces(rt, name, message, 65)?;
+    print_pieces(rt, name, message, 200)
 }
