@@ -9,27 +9,28 @@ use doors::{Answer, Held};
 use sha256::running;
 use slots::slot::Slot;
 use slots::{layout, sizes};
+use std::io;
 use test_output::{print_bytes, print_number, print_text};
 
-fn print_answer(name: &[u8], a: Answer) {
-    print_text(name);
-    print_number(a.number);
-    print_number(a.blocks);
-    print_number(a.value);
+fn print_answer(rt: &impl Print, name: &[u8], a: Answer) -> io::Result<()> {
+    print_text(rt, name)?;
+    print_number(rt, a.number)?;
+    print_number(rt, a.blocks)?;
+    print_number(rt, a.value)
 }
 
-fn print_open(name: &[u8], a: Answer) {
-    print_answer(name, a);
-    print_text(b"\n");
+fn print_open(rt: &impl Print, name: &[u8], a: Answer) -> io::Result<()> {
+    print_answer(rt, name, a)?;
+    print_text(rt, b"\n")
 }
 
-fn print_draw(name: &[u8], a: Answer, out: &[u8]) {
-    print_answer(name, a);
-    print_text(b" ");
+fn print_draw(rt: &impl Print, name: &[u8], a: Answer, out: &[u8]) -> io::Result<()> {
+    print_answer(rt, name, a)?;
+    print_text(rt, b" ")?;
     let d = running::hash_of(out);
     let bytes = d.bytes;
-    print_bytes(bytes);
-    print_text(b"\n");
+    print_bytes(rt, bytes)?;
+    print_text(rt, b"\n")
 }
 
 fn fresh_table() -> Held {
@@ -72,32 +73,33 @@ fn open_with(t: Held, mechanism: u64, strength: u64, entropy: usize) -> Answer
 }
 
 // Requests of 65,536 and 65,537, on each mechanism.
-fn requests(mechanism: u64) {
+fn requests(rt: &impl Print, mechanism: u64) -> io::Result<()> {
     let t = open_with(fresh_table(), mechanism, 128, 16).table;
     let mut most = [7u8; 65536];
     let none = [0u8; 1];
     let a = doors::draw(t, 16, 128, &none[..0], &mut most);
-    print_draw(b"65536", a, &most);
+    print_draw(rt, b"65536", a, &most)?;
     let mut more = [7u8; 65537];
     let b = doors::draw(t, 16, 128, &none[..0], &mut more);
-    print_draw(b"65537", b, &more);
+    print_draw(rt, b"65537", b, &more)
 }
 
 // A 17th opening.
-fn openings() {
+fn openings(rt: &impl Print) -> io::Result<()> {
     let mut t = fresh_table();
     for i in 0..17u64 {
         let a = open_with(t, 1 + i % 2, 0, 14);
-        print_open(b"opening", a);
+        print_open(rt, b"opening", a)?;
         let next = a.table;
         t = next;
     }
+    Ok(())
 }
 
 // The last serial at its largest, and one below.
-fn serials(last: u32) {
+fn serials(rt: &impl Print, last: u32) -> io::Result<()> {
     let t = with_last_serial(fresh_table(), last);
-    print_open(b"serial", open_with(t, 2, 112, 14));
+    print_open(rt, b"serial", open_with(t, 2, 112, 14))
 }
 
 // One clause of soundness broken: of a used slot up to 11, of a free one from 12 on; past 18 none is.
@@ -129,19 +131,19 @@ fn spoiled(k: usize, s: Slot) -> Slot {
 }
 
 // The six calls on one table, and the lent output after both draws.
-fn six_calls(t: Held) {
+fn six_calls(rt: &impl Print, t: Held) -> io::Result<()> {
     let lent = [51u8; 16];
     let all = &lent[..];
     let none = &all[..0];
     let mut out = [7u8; 16];
-    print_open(b"open", open_with(t, 1, 128, 16));
-    print_open(b"reseed", doors::reseed(t, 16, all, none));
+    print_open(rt, b"open", open_with(t, 1, 128, 16))?;
+    print_open(rt, b"reseed", doors::reseed(t, 16, all, none))?;
     let a = doors::draw(t, 16, 0, none, &mut out);
-    print_draw(b"draw", a, &out);
+    print_draw(rt, b"draw", a, &out)?;
     let b = doors::fresh_draw(t, 16, 0, all, none, &mut out);
-    print_draw(b"fresh-draw", b, &out);
-    print_open(b"close", doors::close(t, 16));
-    print_open(b"inquire", doors::inquire(t, 16));
+    print_draw(rt, b"fresh-draw", b, &out)?;
+    print_open(rt, b"close", doors::close(t, 16))?;
+    print_open(rt, b"inquire", doors::inquire(t, 16))
 }
 
 fn place(k: usize) -> usize
@@ -150,21 +152,22 @@ fn place(k: usize) -> usize
     if k < 12 { 0 } else { 1 }
 }
 
-fn unsound(k: usize) {
+fn unsound(rt: &impl Print, k: usize) -> io::Result<()> {
     let t = open_with(fresh_table(), 1, 128, 16).table;
     let i = place(k);
-    six_calls(with_slot(t, i, spoiled(k, slot_at(t, i))));
+    six_calls(rt, with_slot(t, i, spoiled(k, slot_at(t, i))))
 }
 
-fn main() {
-    requests(1);
-    requests(2);
-    print_open(b"31", open_with(fresh_table(), 1, 256, 31));
-    print_open(b"32", open_with(fresh_table(), 1, 256, 32));
-    openings();
-    serials(4294967294);
-    serials(4294967295);
+fn main(rt: HostRuntime) -> io::Result<()> {
+    requests(&rt, 1)?;
+    requests(&rt, 2)?;
+    print_open(&rt, b"31", open_with(fresh_table(), 1, 256, 31))?;
+    print_open(&rt, b"32", open_with(fresh_table(), 1, 256, 32))?;
+    openings(&rt)?;
+    serials(&rt, 4294967294)?;
+    serials(&rt, 4294967295)?;
     for k in 0..20 {
-        unsound(k);
+        unsound(&rt, k)?;
     }
+    Ok(())
 }
