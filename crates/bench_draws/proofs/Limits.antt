@@ -44,7 +44,12 @@ module _ (mechanism : ℕ) (first second : List ℕ) (counter : ℕ) (additional
   pub drawn_so : in_limits (length first) (length second) (length out) 65536 (length additional) 1024 ≡ true → (drawn : Filled)
       → drawn
       ≡ filled
-      (draw sha256 (mechanism_of mechanism) (state_of (mechanism_of mechanism) (record { first = first; second = second; counter = counter }))
+      (draw sha256 (mechanism_of mechanism) (state_of (mechanism_of mechanism) (record {
+        first = first;
+        second = second;
+        counter =
+            counter;
+      }))
       (length out) additional)
       → drawn_in mechanism first second counter additional out ≡ held_in drawn.served drawn.output
   unfolding drawn_in

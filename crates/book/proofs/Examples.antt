@@ -80,5 +80,6 @@ limits : (string_at (0x80 ∷ 0x10 ∷ replicate 2048 0x00) 0 ≡ found (part 2 
     × (record_at (0x03 ∷ 0x00 ∷ 0x00 ∷ 0x81 ∷ 0x80 ∷ 0x04 ∷ 0x00 ∷ []) 0 ≡ bad)
     × (record_at (0x00 ∷ 0x00 ∷ []) 0 ≡ bad)
     × (record_at (0x07 ∷ 0x00 ∷ []) 0 ≡ bad)
-unfolding record_at fields_at open_at reseed_at draw_at fresh_draw_at close_at inquire_at string_at number_at needless lenient_at groups part
+unfolding record_at fields_at open_at reseed_at draw_at fresh_draw_at close_at inquire_at string_at number_at needless
+    lenient_at groups part
 limits = (refl, refl, refl, refl, refl, refl, refl, refl)

@@ -18,7 +18,8 @@ four_bytes s i h =
     (drop_more s (i + 1 + 1) (omega arith) ∙ ap (λ r. get_or s (i + 1 + 1) 0 ∷ r) (drop_more s (i + 1 + 1 + 1) (omega arith)))))
 
 pub word_at-bytes : (s : List ℕ) (t : ℕ) → 4 * t + 4 ≤ length s
-    → word_at sha256 s t ≡ get_or s (4 * t) 0 * 16777216 + get_or s (4 * t + 1) 0 * 65536 + get_or s (4 * t + 2) 0 * 256 + get_or s (4 * t + 3) 0
+    → word_at sha256 s t ≡ get_or s (4 * t) 0 * 16777216 + get_or s (4 * t + 1) 0 * 65536 + get_or s (4 * t + 2) 0 * 256 + get_or s
+    (4 * t + 3) 0
 unfolding word_at number_of
 word_at-bytes s t h =
     let at₂ : 4 * t + 1 + 1 ≡ 4 * t + 2 = omega arith in

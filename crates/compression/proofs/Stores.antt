@@ -1,5 +1,7 @@
 -- Arrays that stores fill from the front, and parts of a string. Assumes nothing.
-use Rattle.std.proofs.Common.{◌≡◌, ℕ, ◌+◌, ◌-◌, ◌*◌, ◌/◌, ◌%◌, ◌<◌, ◌≤◌, List, [], ◌∷◌, ◌++◌, length, get_or, take, drop, set, ap, ◌∙◌, ap₂, append_assoc, add-one, arith, length-append, length-drop, length-set, length-take-le, take-suc, take-suc-set}
+use Rattle.std.proofs.Common.{◌≡◌, ℕ, ◌+◌, ◌-◌, ◌*◌, ◌/◌, ◌%◌, ◌<◌, ◌≤◌, List, [], ◌∷◌, ◌++◌, length, get_or, take, drop, set, ap, ◌∙◌}
+use Rattle.std.proofs.Common.{ap₂, append_assoc, add-one, arith, length-append, length-drop, length-set, length-take-le, take-suc}
+use Rattle.std.proofs.Common.{take-suc-set}
 use lib.Seq.{paste}
 use Rattle.standard.specs.Strings.{bytes_of}
 use Rattle.standard.specs.Hash.{block_at}

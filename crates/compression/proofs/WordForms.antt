@@ -1,9 +1,12 @@
 -- Other forms of the functions on words, for words of any width: fewer operations, or fewer copies, than the document's. Assumes nothing.
-use Rattle.std.proofs.Common.{◌≡◌, ℕ, zero, suc, ◌+◌, ◌-◌, ◌*◌, ◌/◌, ◌%◌, ◌^◌, ◌<◌, ◌≤◌, sym, refl, ap, ◌∙◌, subst, ap₂, le_of_suc-le-suc, not-suc-le-zero, add-zero, add_assoc, mod-lt, mod-eq_of_lt, mul_assoc, mul_comm, add-mul, div-add-mod', add-one, arith, lit<, pow_pos, pow-add, shr-shr, shr_lt}
+use Rattle.std.proofs.Common.{◌≡◌, ℕ, zero, suc, ◌+◌, ◌-◌, ◌*◌, ◌/◌, ◌%◌, ◌^◌, ◌<◌, ◌≤◌, sym, refl, ap, ◌∙◌, subst, ap₂, le_of_suc-le-suc}
+use Rattle.std.proofs.Common.{not-suc-le-zero, add-zero, add_assoc, mod-lt, mod-eq_of_lt, mul_assoc, mul_comm, add-mul, div-add-mod'}
+use Rattle.std.proofs.Common.{add-one, arith, lit<, pow_pos, pow-add, shr-shr, shr_lt}
 use native.Mathlib.Nat.{mul-mod_left}
 use native.Mathlib.Nat.{mul-add-mod_self_right, mul-add-div_right}
 use lib.Arith.{lt-one}
-use lib.Bits.{bit_and, bit_or, bit_xor, and_shr, xor_shr, and_mod, xor_mod, xor_lt, xor_block, and_comm, xor_add_and, and_mask, or_shifted_r}
+use lib.Bits.{bit_and, bit_or, bit_xor, and_shr, xor_shr, and_mod, xor_mod, xor_lt, xor_block, and_comm, xor_add_and, and_mask}
+use lib.Bits.{or_shifted_r}
 use lib.Pow.{ones_lt, mod-pow-add, shl-shr}
 use Rattle.standard.specs.Words.{ROTR, complement, Ch, Maj}
 use Rattle.standard.proofs.Words.{ROTR-lt}
@@ -82,7 +85,8 @@ maj_form =
 xor-and : (w x y z : ℕ) → x < 2 ^ w → y < 2 ^ w → z < 2 ^ w → bit_and (bit_xor x y) z ≡ bit_xor (bit_and x z) (bit_and y z)
 xor-and = on_words (both (one first second) third) (one (both first third) (both second third)) refl refl refl refl refl refl refl refl
 
-chosen : (w x y z : ℕ) → x < 2 ^ w → y < 2 ^ w → z < 2 ^ w → bit_xor z (bit_and x (bit_xor y z)) ≡ bit_xor (bit_and x y) (bit_xor z (bit_and x z))
+chosen : (w x y z : ℕ) → x < 2 ^ w → y < 2 ^ w → z < 2 ^ w
+    → bit_xor z (bit_and x (bit_xor y z)) ≡ bit_xor (bit_and x y) (bit_xor z (bit_and x z))
 chosen =
     on_words (one third (both first (one second third))) (one (both first second) (one third (both first third)))
     refl refl refl refl refl refl refl refl

@@ -95,7 +95,8 @@ module _ {t u : Table} (tables : AlikeTables t u) (t-sound : sound t ≡ true) (
     where
       go : (j : ℕ) → Dec (j ≡ i) → SameNumbers (slot_at (with_slot t i s) j) (slot_at (with_slot u k v) j)
       go j (yes at) =
-          let first : slot_at (with_slot t i s) j ≡ s = ap (slot_at (with_slot t i s)) at ∙ slot_at-same t i s (sound_has t t-sound i room) in
+          let first : slot_at (with_slot t i s) j ≡ s = ap (slot_at (with_slot t i s)) at ∙
+          slot_at-same t i s (sound_has t t-sound i room) in
           let second : slot_at (with_slot u k v) j ≡ v =
           ap (slot_at (with_slot u k v)) (at ∙ here)
           ∙ slot_at-same u k v (sound_has u u-sound k (subst (λ x. x < 16) here room)) in
@@ -176,7 +177,8 @@ module _ {t u : Table} (tables : AlikeTables t u) (t-sound : sound t ≡ true) (
       step_alike h _ _ _ _
       (counter-draw sha256 (mechanism_in s) (state_in s) (length o) a
       ∙ ap (λ n. n + 1)
-      (counter-held (mechanism_in s) (generator_of s) ∙ (tables.slots (h % 16)).counter ∙ sym (counter-held (mechanism_in v) (generator_of v)))
+      (counter-held (mechanism_in s) (generator_of s) ∙ (tables.slots (h % 16)).counter ∙
+      sym (counter-held (mechanism_in v) (generator_of v)))
       ∙ sym (counter-draw sha256 (mechanism_in v) (state_in v) (length o') a'))
       (draw-blocks sha256 (lit< tt) (mechanism_in s) (state_in s) (length o) a (sized_by t h may.sound_so may.named_so)
       ∙ ap (λ m. draw_count sha256 m (length o) (length a)) (mechanisms h) ∙ ap₂ (draw_count sha256 (mechanism_in v)) os eq

@@ -55,7 +55,8 @@ named-moved {t} {u} h (adds s whole room used serial) is = go (ℕ_discrete (h %
         let new : slot_of u h ≡ s =
         slot_at-with_last_serial _ _ (h % 16) ∙ ap (slot_at (with_slot t i s)) at ∙ slot_at-same t i s (sound_has t whole i room) in
         let serial-is : h / 16 ≡ last_serial t + 1 = sym (names-serial u h is) ∙ ap (λ (s : Slot). s.serial) new ∙ serial in
-        inl (subst (λ k. Listed h (k ∷ [])) (ap₂ handle_of serial-is at ∙ refl) (subst (λ k. Listed h (k ∷ [])) (sym (handle-parts h)) here))
+        inl (subst (λ k. Listed h (k ∷ [])) (ap₂ handle_of serial-is at ∙
+        refl) (subst (λ k. Listed h (k ∷ [])) (sym (handle-parts h)) here))
     go (no other) = inr (sym (names_same t u h (slot_at-with_last_serial _ _ (h % 16) ∙ slot_at_other t i s (h % 16) other)) ∙ is)
 named-moved {t} {u} h (steps handle s whole named used serial) is = go (ℕ_discrete (h % 16) (handle % 16))
   where

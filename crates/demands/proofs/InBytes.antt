@@ -148,7 +148,8 @@ after_in_bytes c s b sized =
     table_of-bytes (after (table_of s) c) (machine_after (table_of s) c (machine_table_of s b sized))
 
 -- a call by value: its answer is the reply to the table that went in
-pub by_value : (c : Call) (s : List ℕ) (d : Done) → Bytes s → length s ≡ table_size → d ≡ in_bytes c s → replied_with d ≡ reply (table_of s) c
+pub by_value : (c : Call) (s : List ℕ) (d : Done) → Bytes s → length s ≡ table_size → d ≡ in_bytes c s
+    → replied_with d ≡ reply (table_of s) c
 by_value c s d b sized is =
     let t = table_of s in
     ap replied_with (is ∙ sym (replied_on c s sized refl)) ∙

@@ -93,7 +93,8 @@ one_less n k h = omega (arith, h)
 holds : (r : Row) → computed r ≡ stated r → Holds r
 unfolding place computed stated decides open_reasons
 holds (hash_of n takes k) same = λ m h. hash-blocks sha256 (lit< tt) m ∙ ap (hash_count sha256) h ∙ ap (place 0) same
-holds (update_with n takes k) same = λ d u h ready. update-blocks sha256 (lit< tt) d u ready ∙ ap (update_count sha256) h ∙ ap (place 0) same
+holds (update_with n takes k) same = λ d u h ready. update-blocks sha256 (lit< tt) d u ready ∙ ap (update_count sha256) h ∙
+    ap (place 0) same
 holds (mechanism draw_of n takes k) same = λ s sized. draw-blocks sha256 (lit< tt) mechanism s n [] sized ∙ ap (place 0) same
 holds (mechanism open_with n takes k) same =
     λ e n p h. opening-blocks sha256 (lit< tt) mechanism e n p ∙ ap (open_count sha256 mechanism) h ∙ ap (place 0) same
@@ -121,7 +122,8 @@ holds (the_first_handle_is h) same =
 
 -- lines 1 to 8 hold
 pub table-holds : All Holds table
-unfolding table computed stated decides ceiling HashDrbg.stepped number_of bytes_of rounded first_of open_reasons reply decided close_reasons
+unfolding table computed stated decides ceiling HashDrbg.stepped number_of bytes_of rounded first_of open_reasons reply
+    decided close_reasons
     look_up names
     sound sound_slots sound_slot free_sound all_zero slot_at last_serial fresh_table lowest_free
 table-holds = all_by computed stated holds table refl

@@ -53,7 +53,8 @@ module _ (t : Table) (h : ℕ) (whole : sound t ≡ true) where
 
 module _ (t : Table) (h : ℕ) where
   -- the state under a handle that names a generator has its lengths
-  pub sized_by : sound t ≡ true → named (look_up t h) ≡ true → Sized (state_bytes sha256 (mechanism_in (slot_of t h))) (state_in (slot_of t h))
+  pub sized_by : sound t ≡ true → named (look_up t h) ≡ true
+      → Sized (state_bytes sha256 (mechanism_in (slot_of t h))) (state_in (slot_of t h))
   sized_by whole found = sized_in (last_serial t) (slot_of t h) (sound-named t h whole (sym (named-is t h) ∙ found))
 
   -- a served reseed is the standard's
@@ -86,7 +87,8 @@ module _ (t : Table) (h : ℕ) where
       )
 
   -- and so is a served fresh draw
-  pub fresh_draw_standard : (strength : ℕ) (out entropy additional : List ℕ) → number t (fresh_draws h strength out entropy additional) ≡ 0 →
+  pub fresh_draw_standard : (strength : ℕ) (out entropy additional : List ℕ)
+      → number t (fresh_draws h strength out entropy additional) ≡ 0 →
       let m = fresh_draw sha256 (mechanism_in (slot_of t h)) (state_in (slot_of t h)) (length out) entropy additional in
       Follows t h (answer t (fresh_draws h strength out entropy additional)) m.value.state m.blocks
       × ((reply t (fresh_draws h strength out entropy additional)).output ≡ m.value.bytes)

@@ -19,7 +19,8 @@ use Rattle.drbg_hmac.specs.Keys.{ready}
 pub xored-more : (pad : ℕ) (s : List ℕ) (i : ℕ) → i < length s
     → xored pad (take i s) ++ (bit_xor (get_or s i 0) pad ∷ []) ≡ xored pad (take (i + 1) s)
 unfolding xored
-xored-more pad s i h = sym (ap (map (λ b. bit_xor b pad)) (take_more s i h) ∙ map-append (λ b. bit_xor b pad) (take i s) (get_or s i 0 ∷ []))
+xored-more pad s i h = sym (ap (map (λ b. bit_xor b pad)) (take_more s i h) ∙
+    map-append (λ b. bit_xor b pad) (take i s) (get_or s i 0 ∷ []))
 
 -- a key of 32 bytes and the zeros behind it
 pub xored-filled : (pad : ℕ) (K : List ℕ) → length K ≡ 32 → xored pad (take 32 K) ++ replicate 32 pad ≡ xored pad (filled sha256 K)

@@ -55,7 +55,8 @@ module _ (limbs : List ℕ) (i : ℕ) (inside : i < length limbs) (tail : List �
       ap (λ b. b ++ (after ++ tail)) (bytes_of-add 4 4 x) ∙
       append_assoc (bytes_of 4 (x / 4294967296)) (bytes_of 4 x) (after ++ tail)
 
-  pub high_word : get_or limbs i 0 / 4294967296 < 4294967296 → word_at sha256 (string_of limbs ++ tail) (2 * i) ≡ get_or limbs i 0 / 4294967296
+  pub high_word : get_or limbs i 0 / 4294967296 < 4294967296
+      → word_at sha256 (string_of limbs ++ tail) (2 * i) ≡ get_or limbs i 0 / 4294967296
   high_word small =
       let place : 4 * (2 * i) ≡ 8 * i = omega arith in
       word_behind (string_of limbs ++ tail) (bytes_of 4 (get_or limbs i 0) ++ (string_of (drop (suc i) limbs) ++ tail)) (2 * i) (8 * i)
@@ -69,7 +70,8 @@ module _ (limbs : List ℕ) (i : ℕ) (inside : i < length limbs) (tail : List �
       word_behind (string_of limbs ++ tail) (string_of (drop (suc i) limbs) ++ tail) (2 * i + 1) (8 * i + 4) x place
       (sym (drop-drop 4 (8 * i) (string_of limbs ++ tail)) ∙
       ap (drop 4) limb_behind ∙
-      drop_at (bytes_of 4 (x / 4294967296)) (bytes_of 4 x ++ (string_of (drop (suc i) limbs) ++ tail)) 4 (length-bytes_of 4 (x / 4294967296)))
+      drop_at (bytes_of 4 (x / 4294967296)) (bytes_of 4 x ++ (string_of (drop (suc i) limbs) ++ tail)) 4 (length-bytes_of 4
+      (x / 4294967296)))
 
 -- the two words behind the limbs: zero, and the length in bits
 module _ (s : List ℕ) (size : length s ≡ 56) where

@@ -47,7 +47,8 @@ torn :
     × (says (ascii "[") ≡ unread)
     × (says (ascii "[PredictionResistance = true]") ≡ unread)
     × (says (ascii "[ReturnedBitsLen = ]") ≡ unread)
-unfolding says heading heading_in truth_of length_says field field_says name_end name_of length_of same number_of number_from is_hex all_digits
+unfolding says heading heading_in truth_of length_says field field_says name_end name_of length_of same number_of
+    number_from is_hex all_digits
 torn = unfold digit_of ascii in (refl, refl, refl, refl, refl, refl, refl, refl, refl, refl)
 
 -- both sides of the limit

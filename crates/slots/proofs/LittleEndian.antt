@@ -1,10 +1,13 @@
 -- Numbers and their bytes, and strings put into others. Assumes nothing.
-use Rattle.std.proofs.Common.{◌≡◌, ℕ, suc, ◌+◌, ◌-◌, ◌*◌, ◌/◌, ◌%◌, ◌^◌, ◌<◌, ◌≤◌, List, [], ◌∷◌, ◌++◌, reverse, length, get_or, take, drop, set, sym, ap, ◌∙◌, subst, ap₂, append-nil, le_of_eq, mod-eq_of_lt, mul_comm, add_comm, zero-add, add-one, arith, length-drop, drop_of_length-le, length-take-le, take_all, drop-cons, drop-drop, take-add}
+use Rattle.std.proofs.Common.{◌≡◌, ℕ, suc, ◌+◌, ◌-◌, ◌*◌, ◌/◌, ◌%◌, ◌^◌, ◌<◌, ◌≤◌, List, [], ◌∷◌, ◌++◌, reverse, length, get_or, take}
+use Rattle.std.proofs.Common.{drop, set, sym, ap, ◌∙◌, subst, ap₂, append-nil, le_of_eq, mod-eq_of_lt, mul_comm, add_comm, zero-add}
+use Rattle.std.proofs.Common.{add-one, arith, length-drop, drop_of_length-le, length-take-le, take_all, drop-cons, drop-drop, take-add}
 use mathlib.Core.List.{reverse-cons, reverse-append, reverse-reverse}
 use lib.ListN.{length-reverse}
 use lib.Seq.{sets-eq, paste, length-paste}
 use Rattle.standard.specs.Strings.{number_of, bytes_of, Bytes}
-use Rattle.standard.proofs.Strings.{bytes-nil, bytes-append, bytes-cons, bytes_head, bytes_tail, length-bytes_of, bytes_of-add, bytes_of_mod}
+use Rattle.standard.proofs.Strings.{bytes-nil, bytes-append, bytes-cons, bytes_head, bytes_tail, length-bytes_of, bytes_of-add}
+use Rattle.standard.proofs.Strings.{bytes_of_mod}
 use Rattle.standard.proofs.Strings.{number_of-append, number_of-lt, number_of-bytes_of, bytes_of-number_of}
 use Rattle.copies.proofs.Pasted.{take-paste-whole, paste_join}
 use Rattle.slots.specs.Numbers.{part, from_little_endian, little_endian}

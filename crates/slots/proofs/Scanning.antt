@@ -1,7 +1,8 @@
 -- The scan of a table for soundness: a counter that is read before 1 is added, a slot's fields in two parts, slot after slot.
 -- Assumes nothing.
 use Rattle.slots.specs.Sizes.{field_size}
-use Rattle.std.proofs.Common.{◌≡◌, ℕ, ◌+◌, ◌<◌, ◌≤◌, Bool, true, false, ◌&&◌, ◌||◌, eqb, leb, List, length, take, drop, sym, refl, ap, ◌∙◌, ap₂, add-one, arith, length-drop, take_all, ne_eqb}
+use Rattle.std.proofs.Common.{◌≡◌, ℕ, ◌+◌, ◌<◌, ◌≤◌, Bool, true, false, ◌&&◌, ◌||◌, eqb, leb, List, length, take, drop, sym, refl, ap}
+use Rattle.std.proofs.Common.{◌∙◌, ap₂, add-one, arith, length-drop, take_all, ne_eqb}
 use native.Mathlib.Decide.{dec_lt}
 use borrow.Author.Tests.{lt-leb}
 use lib.Dec.{leb-suc-suc}

@@ -1,6 +1,8 @@
 -- A slot and its 134 bytes: nothing is lost either way. Assumes nothing.
 use Rattle.slots.specs.Sizes.{field_size, interval_at, counter_at, fresh_at, serial_at, first_at, second_at, slot_size}
-use Rattle.std.proofs.Common.{◌≡◌, ℕ, ◌+◌, ◌<◌, ◌≤◌, List, [], ◌∷◌, ◌++◌, length, get_or, take, drop, sym, refl, ap, ◌∙◌, ap₂, le_of_eq, add-zero, arith, lit<, lit≤, length-append, get_or-drop, take_all, drop-cons, get_or-take, take-take, take_at, take-add, drop_at}
+use Rattle.std.proofs.Common.{◌≡◌, ℕ, ◌+◌, ◌<◌, ◌≤◌, List, [], ◌∷◌, ◌++◌, length, get_or, take, drop, sym, refl, ap, ◌∙◌, ap₂, le_of_eq}
+use Rattle.std.proofs.Common.{add-zero, arith, lit<, lit≤, length-append, get_or-drop, take_all, drop-cons, get_or-take, take-take}
+use Rattle.std.proofs.Common.{take_at, take-add, drop_at}
 use Rattle.standard.specs.Strings.{Bytes}
 use Rattle.standard.proofs.Strings.{bytes_take, bytes_drop}
 use Rattle.slots.specs.declared.slot.Slot.{Slot}

@@ -1,5 +1,6 @@
 -- What a table holds after a slot or the last serial is put in. Assumes nothing.
-use Rattle.std.proofs.Common.{◌≡◌, ℕ, zero, suc, ◌<◌, ◌≢◌, ◌⊎◌, List, [], ◌∷◌, length, get_or, set, refl, ap, inl, inr, get_or-set_other, get_or-set_same, set-set}
+use Rattle.std.proofs.Common.{◌≡◌, ℕ, zero, suc, ◌<◌, ◌≢◌, ◌⊎◌, List, [], ◌∷◌, length, get_or, set, refl, ap, inl, inr, get_or-set_other}
+use Rattle.std.proofs.Common.{get_or-set_same, set-set}
 use lib.ListN.{get_or-replicate}
 use lib.Seq.{set-get_or}
 use Rattle.slots.specs.Layout.{free_slot, no_slot, slot_at, with_slot, last_serial, with_last_serial, fresh_table, Table}

@@ -1,6 +1,7 @@
 -- What a sound table's slots are, and that one sound slot more keeps a table sound. Assumes nothing.
 use Rattle.slots.specs.Sizes.{field_size}
-use Rattle.std.proofs.Common.{◌≡◌, ℕ, zero, suc, ◌+◌, ◌^◌, ◌<◌, ◌≤◌, true, not, ◌||◌, eqb, leb, ◌⊎◌, List, length, drop, sym, refl, ap, ◌∙◌, subst, inl, inr, ⊎_elim, le_of_eq, arith, eq-eqb, eqb-true, le-leb, leb-true}
+use Rattle.std.proofs.Common.{◌≡◌, ℕ, zero, suc, ◌+◌, ◌^◌, ◌<◌, ◌≤◌, true, not, ◌||◌, eqb, leb, ◌⊎◌, List, length, drop, sym, refl, ap}
+use Rattle.std.proofs.Common.{◌∙◌, subst, inl, inr, ⊎_elim, le_of_eq, arith, eq-eqb, eqb-true, le-leb, leb-true}
 use mathlib.Core.Bool.{false≢true}
 use native.Mathlib.Decide.{dec_lt}
 use lib.ListN.{get_or-eq_default}
@@ -212,8 +213,10 @@ pub sound-opened : (t : Table) (i serial : ℕ) (s : Slot) → sound t ≡ true 
     → sound (with_last_serial (with_slot t i s) serial) ≡ true
 sound-opened t i serial s h order new =
     sound_changed t (with_last_serial (with_slot t i s) serial) h (rw last_serial-with_last_serial order)
-    (λ j room. ⊎_elim (λ is. inl (new_at j is)) (λ is. inr (slot_at-with_last_serial (with_slot t i s) serial j ∙ is)) (slot_at-cases t i s j))
+    (λ j room. ⊎_elim (λ is. inl (new_at j is)) (λ is. inr (slot_at-with_last_serial (with_slot t i s) serial j ∙
+    is)) (slot_at-cases t i s j))
   where
     new_at : (j : ℕ) → slot_at (with_slot t i s) j ≡ s
-        → sound_slot (last_serial (with_last_serial (with_slot t i s) serial)) (slot_at (with_last_serial (with_slot t i s) serial) j) ≡ true
+        → sound_slot (last_serial (with_last_serial (with_slot t i s) serial)) (slot_at (with_last_serial
+        (with_slot t i s) serial) j) ≡ true
     new_at j is = rw (last_serial-with_last_serial, slot_at-with_last_serial, is) new

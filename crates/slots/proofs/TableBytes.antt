@@ -1,6 +1,11 @@
 -- A table and its 2,148 bytes: nothing is lost either way, a slot or the last serial put in, and whose byte stands where. Assumes nothing.
-use Rattle.slots.specs.Sizes.{field_size, strength_at, interval_at, counter_at, serial_at, first_at, second_at, slot_size, last_at, table_size}
-use Rattle.std.proofs.Common.{◌≡◌, ℕ, zero, suc, ◌+◌, ◌-◌, ◌*◌, ◌/◌, ◌%◌, ◌^◌, ◌<◌, ◌≤◌, List, [], ◌∷◌, ◌++◌, length, get_or, take, drop, set, replicate, sym, refl, ap, ◌∙◌, subst, ap₂, append_assoc, append-nil, suc-le-suc, le_of_eq, le_of_suc-le-suc, not-suc-le-zero, zero-lt-suc, arith, lit≤, length-append, length-drop, take-append-drop, drop_of_length-le, length-take-le, get_or-drop, take_all, get_or-take, drop-drop, take_at, take-add, drop_at}
+use Rattle.slots.specs.Sizes.{field_size, strength_at, interval_at, counter_at, serial_at, first_at, second_at, slot_size, last_at}
+use Rattle.slots.specs.Sizes.{table_size}
+use Rattle.std.proofs.Common.{◌≡◌, ℕ, zero, suc, ◌+◌, ◌-◌, ◌*◌, ◌/◌, ◌%◌, ◌^◌, ◌<◌, ◌≤◌, List, [], ◌∷◌, ◌++◌, length, get_or, take, drop}
+use Rattle.std.proofs.Common.{set, replicate, sym, refl, ap, ◌∙◌, subst, ap₂, append_assoc, append-nil, suc-le-suc, le_of_eq}
+use Rattle.std.proofs.Common.{le_of_suc-le-suc, not-suc-le-zero, zero-lt-suc, arith, lit≤, length-append, length-drop, take-append-drop}
+use Rattle.std.proofs.Common.{drop_of_length-le, length-take-le, get_or-drop, take_all, get_or-take, drop-drop, take_at, take-add}
+use Rattle.std.proofs.Common.{drop_at}
 use lib.Seq.{paste}
 use Rattle.standard.specs.Strings.{number_of, Bytes}
 use Rattle.standard.proofs.Strings.{bytes_take, bytes_drop}
@@ -61,7 +66,8 @@ slots_put (suc n) (suc i) s x below b room =
     behind i s x
   where
     behind : (i : ℕ) (s : List ℕ) (x : Slot)
-        → take slot_size s ++ (take (slot_size * i) (drop slot_size s) ++ (slot_bytes x ++ drop (slot_size * i + slot_size) (drop slot_size s)))
+        → take slot_size s ++ (take (slot_size * i) (drop slot_size s) ++ (slot_bytes x ++ drop (slot_size * i + slot_size)
+        (drop slot_size s)))
         ≡ take (slot_size * suc i) s ++ (slot_bytes x ++ drop (slot_size * suc i + slot_size) s)
     behind i s x =
         let far : slot_size + (slot_size * i + slot_size) ≡ slot_size * suc i + slot_size = omega arith in
@@ -141,11 +147,13 @@ last_put u serial {e} {f} is sized put =
 module _ (s : Slot) (fits : Fits s) (more rest : List ℕ) where
   own-bytes : take slot_size ((slot_bytes s ++ more) ++ rest) ≡ slot_bytes s
   own-bytes =
-      ap (take slot_size) (append_assoc (slot_bytes s) more rest) ∙ take_at (slot_bytes s) (more ++ rest) slot_size (length-slot_bytes s fits)
+      ap (take slot_size) (append_assoc (slot_bytes s) more rest) ∙
+      take_at (slot_bytes s) (more ++ rest) slot_size (length-slot_bytes s fits)
 
   bytes-behind : drop slot_size ((slot_bytes s ++ more) ++ rest) ≡ more ++ rest
   bytes-behind =
-      ap (drop slot_size) (append_assoc (slot_bytes s) more rest) ∙ drop_at (slot_bytes s) (more ++ rest) slot_size (length-slot_bytes s fits)
+      ap (drop slot_size) (append_assoc (slot_bytes s) more rest) ∙
+      drop_at (slot_bytes s) (more ++ rest) slot_size (length-slot_bytes s fits)
 
 pub slots-from : (slots : List Slot) (rest : List ℕ) → ((i : ℕ) → i < length slots → Fits (get_or slots i no_slot))
     → slots_from (length slots) (slots_bytes slots ++ rest) ≡ slots
@@ -230,7 +238,8 @@ in_last s at past =
 
 -- so two tables have the same byte there if they have the same slot, or the same last serial
 module _ (t u : Table) (mt : Machine t) (mu : Machine u) (at : ℕ) where
-  pub same-slot : at < last_at → slot_at u (at / slot_size) ≡ slot_at t (at / slot_size) → get_or (table_bytes u) at 0 ≡ get_or (table_bytes t) at 0
+  pub same-slot : at < last_at → slot_at u (at / slot_size) ≡ slot_at t (at / slot_size)
+      → get_or (table_bytes u) at 0 ≡ get_or (table_bytes t) at 0
   same-slot before same =
       let i : ℕ = at / slot_size in
       sym (in_slot (table_bytes u) at) ∙

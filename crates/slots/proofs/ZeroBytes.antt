@@ -1,6 +1,8 @@
 -- Bytes that are zero, read eight at a time. Assumes nothing.
 use Rattle.slots.specs.Sizes.{field_size}
-use Rattle.std.proofs.Common.{◌≡◌, ℕ, zero, suc, ◌+◌, ◌*◌, ◌^◌, ◌<◌, ◌≤◌, Bool, true, false, ◌&&◌, eqb, List, [], ◌∷◌, reverse, length, take, drop, sym, refl, ap, ◌∙◌, ap₂, le_of_eq, suc-mul, zero-add, zero-mul, arith, lit<, lit≤, take_all, take-take, drop_at, ne_eqb}
+use Rattle.std.proofs.Common.{◌≡◌, ℕ, zero, suc, ◌+◌, ◌*◌, ◌^◌, ◌<◌, ◌≤◌, Bool, true, false, ◌&&◌, eqb, List, [], ◌∷◌, reverse, length}
+use Rattle.std.proofs.Common.{take, drop, sym, refl, ap, ◌∙◌, ap₂, le_of_eq, suc-mul, zero-add, zero-mul, arith, lit<, lit≤, take_all}
+use Rattle.std.proofs.Common.{take-take, drop_at, ne_eqb}
 use mathlib.Core.Bool.{and-true}
 use mathlib.Core.List.{reverse-cons}
 use native.Mathlib.Nat.{one-le-pow}

@@ -146,7 +146,8 @@ module _ (H : Hash) (w : 0 < H.word_bytes) where
   unfolding hash_df
   hash_df-blocks input n = add-zero _ ∙ hash_df_turns-blocks n input (ceiling n (out_bytes H))
 
-  pub seeded-blocks : (material : List ℕ) → (seeded H material).blocks ≡ 2 * ((length material + (2 * H.word_bytes + 5)) / block_bytes H) + 6
+  pub seeded-blocks : (material : List ℕ) → (seeded H material).blocks
+      ≡ 2 * ((length material + (2 * H.word_bytes + 5)) / block_bytes H) + 6
   unfolding seeded
   seeded-blocks material =
       let two : ceiling (seed_bytes H) (out_bytes H) ≡ 2 = ceiling_unique (seed_bytes H) (out_bytes H) 2 (omega arith) (omega arith) in

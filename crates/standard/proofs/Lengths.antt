@@ -42,7 +42,8 @@ length-xored pad s = length-map s _
 
 -- §5 and 6 of FIPS 180-4, and FIPS 198-1
 module _ (H : Hash) where
-  pub length-padded : 0 < H.word_bytes → (m : List ℕ) → length (padded H m) ≡ ((length m + length_bytes H) / block_bytes H + 1) * block_bytes H
+  pub length-padded : 0 < H.word_bytes → (m : List ℕ)
+      → length (padded H m) ≡ ((length m + length_bytes H) / block_bytes H + 1) * block_bytes H
   unfolding padded padding zeros
   length-padded w m = simp (length-append, length-replicate, length-bytes_of) (rounded (length m) (length_bytes H) (omega arith))
 
@@ -50,7 +51,8 @@ module _ (H : Hash) where
   pub padded-whole : 0 < H.word_bytes → (m : List ℕ) → length (padded H m) % block_bytes H ≡ 0
   padded-whole w m = rw (length-padded w m) (mul-mod_left _ (block_bytes H))
 
-  pub blocks-padded : 0 < H.word_bytes → (m : List ℕ) → length (padded H m) / block_bytes H ≡ (length m + length_bytes H) / block_bytes H + 1
+  pub blocks-padded : 0 < H.word_bytes → (m : List ℕ)
+      → length (padded H m) / block_bytes H ≡ (length m + length_bytes H) / block_bytes H + 1
   blocks-padded w m = rw (length-padded w m) (mul-div_cancel _ (omega arith))
 
   pub length-block_at : (m : List ℕ) (i : ℕ) → block_bytes H * i + block_bytes H ≤ length m → length (block_at H m i) ≡ block_bytes H

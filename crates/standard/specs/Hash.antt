@@ -1,7 +1,8 @@
 -- FIPS 180-4 §5 and 6 over a record of parameters, of which `Sha256.sha256` is one: §6.2 and 6.4 are one text.
 -- Differs from the document: the message is whole bytes; a message of 2^(2w) bits or more, which the document does not take,
 -- has its length modulo 2^(2w) in the last field; the intermediate hash value H⁽ⁱ⁾ and the working variables are one record.
-use Rattle.std.specs.Prelude.{ℕ, zero, suc, ◌+◌, ◌-◌, ◌*◌, ◌/◌, ◌%◌, ◌^◌, List, [], ◌∷◌, ◌++◌, cond, ltb, length, get_or, take, drop, replicate}
+use Rattle.std.specs.Prelude.{ℕ, zero, suc, ◌+◌, ◌-◌, ◌*◌, ◌/◌, ◌%◌, ◌^◌, List, [], ◌∷◌, ◌++◌, cond, ltb, length, get_or, take, drop}
+use Rattle.std.specs.Prelude.{replicate}
 use Rattle.standard.specs.Metered.{Metered, return, ◌>>=◌}
 use Rattle.standard.specs.Strings.{number_of, bytes_of}
 use Rattle.standard.specs.Words.{Amounts, Ch, Maj, Σ, σ}

@@ -1,5 +1,8 @@
 -- Sums of long numbers, one limb after the other from the right, with a carry. Assumes nothing.
-use Rattle.std.proofs.Common.{◌≡◌, ℕ, zero, suc, ◌+◌, ◌*◌, ◌/◌, ◌%◌, ◌^◌, ◌<◌, Bool, true, false, ltb, List, [], ◌∷◌, ◌++◌, length, get_or, take, drop, set, replicate, sym, refl, ap, ◌∙◌, ap₂, append_assoc, append-nil, le_of_eq, add-zero, add-mul, div-add-mod', zero-mul, add-one, arith, lit<, length-set, drop_of_length-le, take_all, drop-cons, get_or-set_same, take_at, drop-set-lt, le-ltb, lt-ltb}
+use Rattle.std.proofs.Common.{◌≡◌, ℕ, zero, suc, ◌+◌, ◌*◌, ◌/◌, ◌%◌, ◌^◌, ◌<◌, Bool, true, false, ltb, List, [], ◌∷◌, ◌++◌, length}
+use Rattle.std.proofs.Common.{get_or, take, drop, set, replicate, sym, refl, ap, ◌∙◌, ap₂, append_assoc, append-nil, le_of_eq, add-zero}
+use Rattle.std.proofs.Common.{add-mul, div-add-mod', zero-mul, add-one, arith, lit<, length-set, drop_of_length-le, take_all, drop-cons}
+use Rattle.std.proofs.Common.{get_or-set_same, take_at, drop-set-lt, le-ltb, lt-ltb}
 use native.Mathlib.Nat.{mul-add-div_right, one-le-pow}
 use native.Mathlib.Decide.{dec_lt}
 use mir.Val.{bool_byte}
@@ -130,7 +133,8 @@ sum_first s t total v n total-is s-is t-is =
     let sum : number_of v * 256 + 0 + (number_of n * 256 + 0) ≡ (number_of v + number_of n) * 256 = omega arith in
     total-is ∙ ap₂ (λ a b. bytes_of 56 (a + b)) (number_of-behind v s 0 s-is) (number_of-behind n t 0 t-is) ∙ ap (bytes_of 56) sum
 
-pub sum_more : (s t total n : List ℕ) (x : ℕ) → total ≡ bytes_of 56 (number_of s + number_of t) → s ≡ bytes_of 56 (x * 256) → t ≡ n ++ (0 ∷ [])
+pub sum_more : (s t total n : List ℕ) (x : ℕ) → total ≡ bytes_of 56 (number_of s + number_of t) → s ≡ bytes_of 56 (x * 256)
+    → t ≡ n ++ (0 ∷ [])
     → total ≡ bytes_of 56 ((x + number_of n) * 256)
 sum_more s t total n x total-is s-is t-is =
     let cut : number_of s ≡ x * 256 % 256 ^ 56 = ap number_of s-is ∙ number_of-bytes_of 56 (x * 256) in

@@ -1,5 +1,7 @@
 -- Limbs of eight bytes: the string that they are, read and put one after the other. Assumes nothing.
-use Rattle.std.proofs.Common.{◌≡◌, ℕ, zero, suc, ◌+◌, ◌*◌, ◌/◌, ◌%◌, ◌^◌, ◌<◌, List, [], ◌∷◌, ◌++◌, length, get_or, take, drop, set, sym, refl, ap, ◌∙◌, ap₂, append_assoc, append-nil, mod-eq_of_lt, arith, length-append, drop_of_length-le, length-take-le, drop-cons, drop-drop, take_at, take-add, drop_at}
+use Rattle.std.proofs.Common.{◌≡◌, ℕ, zero, suc, ◌+◌, ◌*◌, ◌/◌, ◌%◌, ◌^◌, ◌<◌, List, [], ◌∷◌, ◌++◌, length, get_or, take, drop, set, sym}
+use Rattle.std.proofs.Common.{refl, ap, ◌∙◌, ap₂, append_assoc, append-nil, mod-eq_of_lt, arith, length-append, drop_of_length-le}
+use Rattle.std.proofs.Common.{length-take-le, drop-cons, drop-drop, take_at, take-add, drop_at}
 use lib.Seq.{paste}
 use Rattle.standard.specs.Strings.{number_of, bytes_of, Bytes}
 use Rattle.standard.proofs.Strings.{bytes-nil, bytes-cons, bytes_of-number_of, length-bytes_of, number_of-append, number_of-bytes_of}
@@ -10,7 +12,8 @@ use Rattle.copies.proofs.Pasted.{pasted}
 pub string_of-append : (l m : List ℕ) → string_of (l ++ m) ≡ string_of l ++ string_of m
 unfolding string_of
 string_of-append [] m = refl
-string_of-append (x ∷ l) m = ap (λ s. bytes_of 8 x ++ s) (string_of-append l m) ∙ sym (append_assoc (bytes_of 8 x) (string_of l) (string_of m))
+string_of-append (x ∷ l) m = ap (λ s. bytes_of 8 x ++ s) (string_of-append l m) ∙
+    sym (append_assoc (bytes_of 8 x) (string_of l) (string_of m))
 
 string_of-one : (x : ℕ) → string_of (x ∷ []) ≡ bytes_of 8 x
 unfolding string_of
@@ -39,7 +42,8 @@ module _ (l : List ℕ) (i : ℕ) (inside : i < length l) where
   length-first = length-string_of (take i l) ∙ ap (λ n. 8 * n) (length-take-le i l (omega arith))
 
   -- the number that one limb more makes
-  pub number_of-more : get_or l i 0 < 2 ^ 64 → number_of (string_of (take (i + 1) l)) ≡ number_of (string_of (take i l)) * 256 ^ 8 + get_or l i 0
+  pub number_of-more : get_or l i 0 < 2 ^ 64 → number_of (string_of (take (i + 1) l))
+      ≡ number_of (string_of (take i l)) * 256 ^ 8 + get_or l i 0
   number_of-more small =
       ap number_of string_of-more ∙
       number_of-append (string_of (take i l)) (bytes_of 8 (get_or l i 0)) ∙

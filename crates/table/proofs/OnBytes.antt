@@ -55,12 +55,14 @@ module _ (c : Call) (s : List ℕ) where
       ap (λ b. cond b (done (reply (table_of s) c)) (record { told = told_refused 1; table = s; output = lent c }))
       (sym (eq-eqb (length s) table_size sized))
 
-  pub served_on : length s ≡ table_size → {n : ℕ} → n ≡ first_of (reasons_of (table_of s) c) → n ≡ 0 → {r : Reply} → r ≡ service (table_of s) c
+  pub served_on : length s ≡ table_size → {n : ℕ} → n ≡ first_of (reasons_of (table_of s) c) → n ≡ 0 → {r : Reply}
+      → r ≡ service (table_of s) c
       → done r ≡ in_bytes c s
   served_on sized first none given = replied_on sized (given ∙ served_call (table_of s) c first none)
 
   module _ (b : Bytes s) where
-    pub refused_on : {n : ℕ} {r : Told} → r ≡ told_refused n → length s ≡ table_size → n ≡ first_of (reasons_of (table_of s) c) → (n ≡ 0 → ⊥)
+    pub refused_on : {n : ℕ} {r : Told} → r ≡ told_refused n → length s ≡ table_size → n ≡ first_of (reasons_of (table_of s) c)
+        → (n ≡ 0 → ⊥)
         → record { told = r; table = s; output = lent c } ≡ in_bytes c s
     refused_on told sized first some =
         ap₂ (λ r t. record { told = r; table = t; output = lent c }) told (sym (bytes-table_of s b sized)) ∙

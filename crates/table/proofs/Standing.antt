@@ -36,7 +36,8 @@ unfolding field
 rest-field s h = ap all_zero (drop_at s (replicate (55 - length s) 0) 32 h) ∙ all_zero-replicate (55 - length s)
 
 -- a string of the mechanism's length as a field
-pub field-standing : (mechanism : ℕ) (s : List ℕ) → (mechanism ≡ 1) ⊎ (mechanism ≡ 2) → length s ≡ state_bytes sha256 (mechanism_of mechanism)
+pub field-standing : (mechanism : ℕ) (s : List ℕ) → (mechanism ≡ 1) ⊎ (mechanism ≡ 2)
+    → length s ≡ state_bytes sha256 (mechanism_of mechanism)
     → Field mechanism (field s)
 field-standing mechanism s (inl one) h =
     let size : length s ≡ 32 = rw one at h in

@@ -13,7 +13,8 @@ module _ (text : List ℕ) where
   one_more n m sum x m-is sum-is x-is = ap₂ bit_xor sum-is x-is ∙ sym (ap (first_words text) m-is ∙ last n)
 
   four-more : (n sum a b c d : ℕ) → sum ≡ first_words text n → a ≡ first_word text (n + 0) → b ≡ first_word text (n + 1)
-      → c ≡ first_word text (n + 2) → d ≡ first_word text (n + 3) → bit_xor (bit_xor (bit_xor (bit_xor sum a) b) c) d ≡ first_words text (n + 4)
+      → c ≡ first_word text (n + 2) → d ≡ first_word text (n + 3)
+      → bit_xor (bit_xor (bit_xor (bit_xor sum a) b) c) d ≡ first_words text (n + 4)
   four-more n sum a b c d sum-is a-is b-is c-is d-is =
       one_more (n + 3) (n + 4) _ d (omega arith)
       (one_more (n + 2) (n + 3) _ c (omega arith)

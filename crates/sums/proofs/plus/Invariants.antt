@@ -8,7 +8,8 @@ abbrev pub invariant-loop-i : goal.invariant-loop-i
 invariant-loop-i l =
     (l.i ≤ 7) × (length l.sum ≡ 7) ×
     (bytes_of 56 (number_of (string_of l.a) + number_of (string_of l.b))
-    ≡ bytes_of (8 * l.i) (number_of (string_of (take l.i l.a)) + number_of (string_of (take l.i l.b)) + l.carry) ++ string_of (drop l.i l.sum))
+    ≡ bytes_of (8 * l.i) (number_of (string_of (take l.i l.a)) + number_of (string_of (take l.i l.b)) + l.carry) ++ string_of
+    (drop l.i l.sum))
 
 abbrev pub decreases-loop-i : goal.decreases-loop-i
 decreases-loop-i l = l.i

@@ -23,6 +23,7 @@ loop-at-preserved c =
       going = subst Going (sym stays.0) (piece.ensures.within.0, stays.2, stays.1);
       goes =
           subst
-          (λ p. GoesOn c.args.mechanism c.args.was c.args.store.now c.args.line.now c.args.window.now piece.result.next p piece.new.store piece.new.line)
+          (λ p. GoesOn c.args.mechanism c.args.was c.args.store.now c.args.line.now c.args.window.now piece.result.next p
+          piece.new.store piece.new.line)
           (sym stays.0) (goes-next c.loop-at.invariant.goes piece.ensures.reports);
     }

@@ -1,5 +1,6 @@
 -- Each turn puts one zero more; at the end the mark, which stands behind the first `fill`, is split from what stands before it.
-use Rattle.std.proofs.Common.{◌≡◌, [], ◌∷◌, ◌++◌, ◌+◌, ◌-◌, ◌≤◌, length, take, set, replicate, sym, ap, ◌∙◌, append_assoc, take_all, arith, rules}
+use Rattle.std.proofs.Common.{◌≡◌, [], ◌∷◌, ◌++◌, ◌+◌, ◌-◌, ◌≤◌, length, take, set, replicate, sym, ap, ◌∙◌, append_assoc, take_all}
+use Rattle.std.proofs.Common.{arith, rules}
 use Rattle.compression.proofs.Stores.{take_more_set}
 use Rattle.sha256.proofs.Scratch.{zeros-more}
 use Rattle.sha256.proofs.padding.marked.Goals as goal

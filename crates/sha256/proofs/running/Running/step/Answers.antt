@@ -1,5 +1,6 @@
 -- What waits grows, or fills a block that is absorbed.
-use Rattle.std.proofs.Common.{◌≡◌, ◌++◌, ◌+◌, ◌%◌, ◌≤◌, ◌<◌, ℕ, List, length, take, drop, refl, sym, ap, ◌∙◌, length-append, mod-eq_of_lt, arith}
+use Rattle.std.proofs.Common.{◌≡◌, ◌++◌, ◌+◌, ◌%◌, ◌≤◌, ◌<◌, ℕ, List, length, take, drop, refl, sym, ap, ◌∙◌, length-append, mod-eq_of_lt}
+use Rattle.std.proofs.Common.{arith}
 use Rattle.compression.proofs.Stores.{length_part}
 use Rattle.sha256.proofs.Feeding.{fed-part, fed-whole}
 use Rattle.sha256.proofs.Scratch.{picked_block, length_before}
