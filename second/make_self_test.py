@@ -28,19 +28,19 @@ FRESH = OPENING + [
     ("entropy3", "EntropyInputPR"), ("additional3", "AdditionalInput"),
     ("returned", "ReturnedBits")]
 CASES = [
-    ("hmacReseeded", "Reseeded", RESEEDED, "drbg/pr_false/HMAC_DRBG.rsp"),
-    ("hashReseeded", "Reseeded", RESEEDED, "drbg/pr_false/Hash_DRBG.rsp"),
-    ("hmacFresh", "Fresh", FRESH, "drbg/pr_true/HMAC_DRBG.rsp"),
-    ("hashFresh", "Fresh", FRESH, "drbg/pr_true/Hash_DRBG.rsp")]
+    ("hmac_reseeded", "Reseeded", RESEEDED, "drbg/pr_false/HMAC_DRBG.rsp"),
+    ("hash_reseeded", "Reseeded", RESEEDED, "drbg/pr_false/Hash_DRBG.rsp"),
+    ("hmac_fresh", "Fresh", FRESH, "drbg/pr_true/HMAC_DRBG.rsp"),
+    ("hash_fresh", "Fresh", FRESH, "drbg/pr_true/Hash_DRBG.rsp")]
 
 CODE = """\
 // Made by second/make_self_test.py: NIST's cases, their strings as they stand in the named files.
 """
 DEFINITIONS = """\
 -- Made by second/make_self_test.py: NIST's cases, their strings as they stand in the named files.
-use mathlib.Core.List.{_++_}
-use Rattle·standard.specs.Strings.{bytesOf}
-use Rattle·self_test·specs.specs.Cases.{Reseeded, Fresh}
+use Rattle.std.specs.Prelude.{◌++◌}
+use Rattle.standard.specs.Strings.{bytes_of}
+use Rattle.self_test.specs.Cases.{Reseeded, Fresh}
 """
 
 
@@ -86,7 +86,7 @@ def code(name, path, case, found):
 
 
 def number(text):
-    lines = [f"bytesOf {len(row)} 0x{row.hex()}" for row in rows(text)]
+    lines = [f"bytes_of {len(row)} 0x{row.hex()}" for row in rows(text)]
     return " " + lines[0] if len(lines) == 1 else "\n" + " ++\n".join(" " * 10 + line for line in lines)
 
 

@@ -3,7 +3,8 @@
 Writes the copies into FOLDER and prints a line for each: its path, the answer that its self
 test must give ('other': any but 0), and what was changed. The places are those of SHA-256's
 constants, which stand in the code as numbers of four bytes, and of the strings of NIST's
-cases. What stands nowhere in the archive is an error: nothing would be tried.
+cases: whole, or in pieces of 16 bytes where the compiler has cut them. What stands nowhere
+in the archive is an error: nothing would be tried.
 """
 
 import pathlib
@@ -23,12 +24,25 @@ def fraction(n, power):
     return root % 2 ** 32
 
 
-def places(archive, text):
+PIECE = 16
+
+
+def whole(archive, text):
+    """Where each byte after the text's last one stands."""
     found = []
     at = archive.find(text)
     while at >= 0:
-        found.append(at)
+        found.append(at + len(text))
         at = archive.find(text, at + 1)
+    return found
+
+
+def ends(archive, text):
+    """The ends of the text in the archive, or of each of its pieces."""
+    found = whole(archive, text)
+    if found == [] and len(text) > PIECE:
+        pieces = [whole(archive, text[at:at + PIECE]) for at in range(0, len(text), PIECE)]
+        found = [end for piece in pieces for end in piece] if all(pieces) else []
     if found == []:
         raise SystemExit(f"{text.hex()} stands nowhere in the archive")
     return found
@@ -49,10 +63,10 @@ def main(path, folder):
     archive = pathlib.Path(path).read_bytes()
     count = 0
     for text, answer, name in wanted():
-        for at in places(archive, text):
+        for end in ends(archive, text):
             count += 1
             copy = pathlib.Path(folder) / f"{count}.a"
-            last = at + len(text) - 1
+            last = end - 1
             copy.write_bytes(archive[:last] + bytes([archive[last] ^ 1]) + archive[last + 1:])
             print(copy, answer, name)
 

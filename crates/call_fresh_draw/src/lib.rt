@@ -12,6 +12,7 @@ use slots::{handle, layout, sound};
 use table::answers;
 use table::answers::Told;
 
+#[inline(always)]
 pub fn fresh_draw<'a>(
     table: &mut [u8],
     handle: u64,

@@ -45,6 +45,7 @@ fn rest_of_string<'a>(
 }
 
 // That string read, and the place moved to its end.
+#[inline(always)]
 fn read_on<'a>(entropy: &'a [u8], nonce: &'a [u8], personalization: &'a [u8], place: Place) -> Place
     requires { Ready (length entropy.now + length nonce.now + length personalization.now) place }
     ensures { ReadOn entropy.now nonce.now personalization.now place result }
@@ -80,6 +81,7 @@ pub fn new<'a>(
 }
 
 // A reader that has advanced to the end of the string that its place stands in.
+#[inline(always)]
 pub fn read<'a>(r: Reader<'a>) -> Reader<'a>
     requires { Ready (size r) r.place }
     ensures { Advanced r.entry result }

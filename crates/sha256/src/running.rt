@@ -116,8 +116,7 @@ impl Running {
         while at < s.len() {
             let fill = h.waiting;
             let n = least(64 - fill, s.len() - at);
-            let next = h.step(s, at, n);
-            h = next;
+            h = h.step(s, at, n);
             at += n;
         }
         h

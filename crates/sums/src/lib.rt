@@ -128,6 +128,7 @@ fn widened(s: &[u8]) -> [u8; 55]
 }
 
 // v + h + c + n
+#[inline(always)]
 pub fn total(v: [u8; 55], h: [u8; 32], c: [u8; 55], n: u64) -> [u8; 55]
     ensures { result ≡ bytes_of 55 (number_of v + (number_of h + number_of c + n)) }
 {

@@ -10,6 +10,6 @@ loop-at-preserved c =
     let l = c.loop-at in
     let a = c.args in (
       omega arith,
-      subst (λ x. Fed a.self x c.step-next.result) (sym (take-add l.at c.least-n.result a.s.now))
-          (fed_then l.invariant.1 c.step-next.ensures),
+      subst (λ x. Fed a.self x c.step-h.result) (sym (take-add l.at c.least-n.result a.s.now))
+          (fed_then l.invariant.1 c.step-h.ensures),
     )
