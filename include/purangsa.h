@@ -1,7 +1,8 @@
 /* Purangsa: NIST SP 800-90A generators, HMAC_DRBG and Hash_DRBG over SHA-256, sixteen of them in a table that the caller keeps.
  *
  * Link libpurangsa.a, which library/build proves and writes, and ./install puts where pkg-config finds it (purangsa.3 says more); it
- * needs nothing but memcpy and memset. x86-64 Linux.
+ * needs nothing but memcpy and memset. x86-64 Linux, on a
+ * processor of the level x86-64-v2 (SSE4.2) or later.
  *
  * The table is PURANGSA_TABLE_LENGTH bytes of the caller's, anywhere, in no alignment. All bytes zero is the fresh table. Whoever
  * keeps the bytes keeps the generators: they may be copied, stored and brought back, and they are as secret as what is drawn.
