@@ -9,7 +9,7 @@ use lib.ListN.{length, length-append}
 use Rattle.standard.specs.Strings.{ceiling}
 use Rattle.standard.specs.State.{State}
 use Rattle.standard.specs.Sha256.{sha256}
-use Rattle.standard.specs.Functions.{Mechanism, HMAC_DRBG, Hash_DRBG, opening, reseeding, draw, fresh_draw}
+use Rattle.standard.specs.Functions.{Mechanism, HMAC_DRBG, Hash_DRBG, draw}
 use Rattle.standard.specs.Lengths.{Sized}
 use Rattle.standard.specs.Blocks.{update_count, open_count, reseed_count, draw_count, Bounded}
 use Rattle.standard.proofs.Counts.{opening-blocks, reseeding-blocks, draw-blocks, fresh_draw-blocks}
