@@ -33,7 +33,6 @@ pub const K: [u32; 64] = [
 ];
 
 // §5.3.3
-#[inline(never)]
 pub fn initial() -> Eight
     ensures { eight_of result ≡ initial256 }
 {
