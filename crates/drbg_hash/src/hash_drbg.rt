@@ -69,7 +69,6 @@ fn led(byte: u8, v: [u8; 55]) -> [u8; 56]
 }
 
 // The hash of 56 bytes: a bit 1 and zeros fill their block, and 448, the length in bits, ends another.
-#[inline(never)]
 fn hash_of_led(lead: [u8; 56]) -> [u8; 32]
     ensures { costing 2 result ≡ hash sha256 lead }
 {
