@@ -72,14 +72,14 @@ fn led(byte: u8, v: [u8; 55]) -> [u8; 56]
 fn hash_of_led(lead: [u8; 56]) -> [u8; 32]
     ensures { costing 2 result ≡ hash sha256 lead }
 {
-    let mut first = [0u8; 64];
-    first[56] = 128;
-    copies::copy(&mut first, 0, &lead);
-    let mut last = [0u8; 64];
-    last[62] = 1;
-    last[63] = 192;
-    let once = rounds::compress(rounds::initial(), &first);
-    digest::bytes_of(rounds::compress(once, &last))
+    let mut block = [0u8; 64];
+    block[56] = 128;
+    copies::copy(&mut block, 0, &lead);
+    let once = rounds::compress(rounds::initial(), &block);
+    block = [0u8; 64];
+    block[62] = 1;
+    block[63] = 192;
+    digest::bytes_of(rounds::compress(once, &block))
 }
 
 // §10.1.1.4, steps 4 and 5: V after a draw, in its place.
