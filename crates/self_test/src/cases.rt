@@ -19,7 +19,7 @@ pub fn reseeded<'a>(
     returned: &'a [u8],
 ) -> bool
     ensures { result ≡ holds (kinds.reseeded mechanism (record {
-      entropy1 = entropy1.entry.now;
+      entropy1 = entropy1.now;
       nonce = nonce.now;
       personalization = personalization.now;
       entropy2 = entropy2.now;
@@ -61,7 +61,7 @@ pub fn fresh<'a>(
     returned: &'a [u8],
 ) -> bool
     ensures { result ≡ holds (kinds.fresh mechanism (record {
-      entropy1 = entropy1.entry.now;
+      entropy1 = entropy1.now;
       nonce = nonce.now;
       personalization = personalization.now;
       entropy2 = entropy2.now;

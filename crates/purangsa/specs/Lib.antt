@@ -1,2 +1,0 @@
--- What is promised of the bytes that were read.
-pub mod Counts
