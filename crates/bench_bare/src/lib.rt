@@ -13,12 +13,9 @@ use compression::rounds;
 pub extern "C" fn purangsa_bare(text: &[u8]) -> u32
     ensures { result ≡ (absorbed sha256 text.now (length text.now / 64) sha256.initial).value.a }
 {
-    let blocks = text.len() / 64;
     let mut s = rounds::initial();
-    for i in 0..blocks {
-        let at = 64 * i;
-        let next = rounds::compress(s, &text[at..at + 64]);
-        s = next;
+    for block in text.chunks_exact(64) {
+        s = rounds::compress(s, block);
     }
     s.a
 }

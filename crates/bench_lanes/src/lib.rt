@@ -2,7 +2,7 @@
 
 #![tactic(auto)]
 
-ghost use Rattle.std.specs.Prelude.{◌≡◌, ◌++◌, ℕ, ◌+◌, ◌*◌, ◌/◌, ◌≤◌, ◌<◌, length, take};
+ghost use Rattle.std.specs.Prelude.{◌≡◌, ◌++◌, ℕ, ◌+◌, ◌*◌, ◌/◌, ◌<◌, length, take};
 ghost use Rattle.standard.specs.Hash.{schedule, block_at};
 ghost use Rattle.standard.specs.Sha256.{sha256};
 ghost use Rattle.lanes.specs.Lanes.{lane_of};
@@ -12,27 +12,21 @@ use compression::schedule;
 
 // A block's words in lane l.
 fn put_lane(words: &mut [u32; 64], l: usize, w: [u32; 16])
-    requires { (length words.old ≡ 64) × (l < 4) }
-    ensures is { take (16 * l + 16) words.new ≡ take (16 * l) words.old ++ w }
-    ensures sized { length words.new ≡ 64 }
+    requires { l < 4 }
+    ensures { take (16 * l + 16) words.new ≡ take (16 * l) words.old ++ w }
 {
-    let from = 16 * l;
-    for t in 0..16 {
-        words[from + t] = w[t];
-    }
+    words[16 * l..16 * l + 16].copy_from_slice(&w);
 }
 
-// Four blocks of the text, from block `first` on, a lane each.
-fn put_group(words: &mut [u32; 64], text: &[u8], first: usize)
-    requires { (length words.old ≡ 64) × (64 * (first + 4) ≤ length text.now) }
-    ensures is { (l : ℕ) → l < 4
-        → lane_of words.new l ≡ schedule sha256 (block_at sha256 text.now (first + l)) 16 }
-    ensures sized { length words.new ≡ 64 }
+// The four blocks of a group, a lane each.
+fn put_group(words: &mut [u32; 64], group: &[u8])
+    requires { length group.now ≡ 256 }
+    ensures { (l : ℕ) → l < 4 → lane_of words.new l ≡ schedule sha256 (block_at sha256 group.now l) 16 }
 {
+    // By number: a lane is a place in the array.
     for l in 0..4 {
-        let at = 64 * (first + l);
-        let w = schedule::block_words(&text[at..at + 64]);
-        put_lane(words, l, w);
+        let at = 64 * l;
+        put_lane(words, l, schedule::block_words(&group[at..at + 64]));
     }
 }
 
@@ -41,11 +35,10 @@ fn put_group(words: &mut [u32; 64], text: &[u8], first: usize)
 pub extern "C" fn purangsa_lanes(text: &[u8]) -> u32
     ensures { result ≡ first_words text.now (4 * (length text.now / 256)) }
 {
-    let groups = text.len() / 256;
-    let mut words = [0u32; 64];
-    let mut sum = 0u32;
-    for i in 0..groups {
-        put_group(&mut words, text, 4 * i);
+    let mut words = [0; 64];
+    let mut sum = 0;
+    for group in text.chunks_exact(256) {
+        put_group(&mut words, group);
         let r = lanes::four(&words);
         sum = sum ^ r[0].a ^ r[1].a ^ r[2].a ^ r[3].a;
     }

@@ -48,21 +48,20 @@ pub fn initial() -> Eight
     }
 }
 
-// Step 3, T₁ and T₂.
+// Step 3, T₁ and T₂. Sums of words are the supplied wrapping add.
 fn t1(s: Eight, k: u32, w: u32) -> u32
     ensures { result ≡ T₁ sha256 (eight_of s) k w }
 {
-    let chosen = words::sum(
-        words::sum(s.h, words::upper_sigma_1(s.e)),
-        words::ch(s.e, s.f, s.g),
-    );
-    words::sum(words::sum(chosen, k), w)
+    s.h.wrapping_add(words::upper_sigma_1(s.e))
+        .wrapping_add(words::ch(s.e, s.f, s.g))
+        .wrapping_add(k)
+        .wrapping_add(w)
 }
 
 fn t2(s: Eight) -> u32
     ensures { result ≡ T₂ sha256 (eight_of s) }
 {
-    words::sum(words::upper_sigma_0(s.a), words::maj(s.a, s.b, s.c))
+    words::upper_sigma_0(s.a).wrapping_add(words::maj(s.a, s.b, s.c))
 }
 
 fn turned(s: Eight, k: u32, w: u32) -> Eight
@@ -70,11 +69,11 @@ fn turned(s: Eight, k: u32, w: u32) -> Eight
 {
     let t = t1(s, k, w);
     Eight {
-        a: words::sum(t, t2(s)),
+        a: t.wrapping_add(t2(s)),
         b: s.a,
         c: s.b,
         d: s.c,
-        e: words::sum(s.d, t),
+        e: s.d.wrapping_add(t),
         f: s.e,
         g: s.f,
         h: s.g,
@@ -101,7 +100,8 @@ pub fn two_turns(s: Eight, k: [u32; 64], w: [u32; 16], t: usize) -> Eight
 // Step 3, and the later words of step 1: two turns, then the two words that take the places of theirs, which is the quickest order. All is
 // written out: then every place is known when the crate is compiled and no array is left at run time, no working variable is moved, and a
 // constant is a part of its instruction.
-fn all_turns(from: Eight, k: [u32; 64], w16: [u32; 16]) -> Eight
+#[inline(always)]
+pub fn all_turns(from: Eight, k: [u32; 64], w16: [u32; 16]) -> Eight
     ensures { (block : List ℕ) → k ≡ K256 → w16 ≡ schedule sha256 block 16 → Reached sha256 block (eight_of from) 64 (eight_of result) }
 {
     let s2 = two_turns(from, k, w16, 0);
@@ -167,14 +167,14 @@ pub fn sums(s: Eight, v: Eight) -> Eight
     ensures { eight_of result ≡ added sha256 (eight_of s) (eight_of v) }
 {
     Eight {
-        a: words::sum(v.a, s.a),
-        b: words::sum(v.b, s.b),
-        c: words::sum(v.c, s.c),
-        d: words::sum(v.d, s.d),
-        e: words::sum(v.e, s.e),
-        f: words::sum(v.f, s.f),
-        g: words::sum(v.g, s.g),
-        h: words::sum(v.h, s.h),
+        a: v.a.wrapping_add(s.a),
+        b: v.b.wrapping_add(s.b),
+        c: v.c.wrapping_add(s.c),
+        d: v.d.wrapping_add(s.d),
+        e: v.e.wrapping_add(s.e),
+        f: v.f.wrapping_add(s.f),
+        g: v.g.wrapping_add(s.g),
+        h: v.h.wrapping_add(s.h),
     }
 }
 

@@ -12,7 +12,7 @@ use drbg_shared::output;
 fn only_block(limbs: [u64; 7]) -> [u8; 64]
     ensures { result ≡ block_of limbs }
 {
-    let mut block = [0u8; 64];
+    let mut block = [0; 64];
     block[62] = 1;
     block[63] = 184;
     sums::put_limbs(&mut block, limbs);
@@ -29,20 +29,16 @@ fn hash_of_block(block: [u8; 64]) -> [u8; 32]
 // The turns from `first` on, until the output is full; the last one's hash may be cut. How many turns there are from the start is handed
 // back.
 pub fn filled(next: &mut [u64; 7], out: &mut [u8], first: usize) -> usize
-    requires { (length next.old ≡ 7) × (length out.old ≤ 65536) × (32 * first ≤ length out.old) }
+    requires { 32 * first ≤ length out.old }
     ensures is { Onward first result next.old out.old next.new out.new }
     ensures whole { (length out.old ≤ 32 * result) × (32 * result < length out.old + 32) }
-    ensures sized { (length next.new ≡ 7) × (length out.new ≡ length out.old) }
 {
-    let mut turn = first;
-    while 32 * turn < out.len() {
+    let turns = out.len().div_ceil(32);
+    // By number: of what is written through chunks_mut a proof knows the length alone.
+    for turn in first..turns {
         let block = only_block(*next);
-        let further = limbs::one_more(*next);
-        *next = further;
-        let w = hash_of_block(block);
-        let at = 32 * turn;
-        output::store(out, at, w);
-        turn += 1;
+        *next = limbs::one_more(*next);
+        output::store(out, 32 * turn, hash_of_block(block));
     }
-    turn
+    turns
 }

@@ -1,13 +1,9 @@
 -- Two strings compared from the front, a byte at a time. Assumes nothing.
-use Prim.Native.Nat.{ℕ, suc, ◌+◌, ◌≤◌, ◌<◌}
-use mathlib.Core.Path.{◌≡◌, refl, sym, ap, ap₂, ◌∙◌}
-use mathlib.Core.Bool.{Bool, true, false, ◌&&◌, and_assoc, and-false, false≢true}
-use mathlib.Core.List.{List, [], ◌∷◌}
-use native.Mathlib.Numerals.{add-one}
+use Rattle.std.proofs.Common.{◌≡◌, ℕ, suc, refl, sym, ap, ap₂, ◌∙◌, List, [], ◌∷◌, ◌&&◌, Bool, true, false, length, arith, ◌⊎◌, inl, inr}
+use mathlib.Core.Bool.{and_assoc, and-false, false≢true}
+use Rattle.std.proofs.Math.Bool.{and-true}
 use borrow.Author.Tests.{eqb-true, eq-eqb}
 use lib.Dec.{eqb}
-use lib.ListN.{length, drop, get_or, drop_of_length-le}
-use lib.Seq.{drop-cons}
 use Rattle.same.specs.Same.{same}
 
 -- strings of two lengths are not the same
@@ -19,18 +15,16 @@ other_lengths (x ∷ a) [] h = refl
 other_lengths (x ∷ a) (y ∷ b) h = sym (ap (λ e. eqb x y && e) (sym (other_lengths a b (λ l. h (ap suc l)))) ∙ and-false (eqb x y))
 
 -- one byte more
-pub same_next : (a b : List ℕ) (i : ℕ) (equal : Bool) → i < length a → i < length b
-    → ((equal && eqb (get_or a i 0) (get_or b i 0)) && same (drop (i + 1) a) (drop (i + 1) b)) ≡ (equal && same (drop i a) (drop i b))
+pub same_next : {a b r s : List ℕ} {x y : ℕ} (equal : Bool) → a ≡ x ∷ r → b ≡ y ∷ s → ((equal && eqb x y) && same r s) ≡ (equal && same a b)
 unfolding same
-same_next a b i equal h l =
-    and_assoc equal (eqb (get_or a i 0) (get_or b i 0)) (same (drop (i + 1) a) (drop (i + 1) b)) ∙
-    ap (λ e. equal && e) (rw (add-one, drop-cons a i 0 h, drop-cons b i 0 l))
+same_next {a} {b} {r} {s} {x} {y} equal p q = and_assoc equal (eqb x y) (same r s) ∙ ap (λ e. equal && e) (sym (ap₂ same p q))
 
--- and past the end none is left
-pub same_end : (a b : List ℕ) (i : ℕ) (equal : Bool) → length a ≤ i → length b ≤ i → (equal && same (drop i a) (drop i b)) ≡ equal
+-- and at the end none is left
+pub same_end : (a b : List ℕ) (equal : Bool) → length a ≡ length b → (length a ≡ 0) ⊎ (length b ≡ 0) → (equal && same a b) ≡ equal
 unfolding same
-same_end a b i true h l = ap₂ same (drop_of_length-le a h) (drop_of_length-le b l)
-same_end a b i false h l = refl
+same_end [] [] equal e h = and-true equal
+same_end [] (y ∷ b) equal e h = absurd (omega (arith, e))
+same_end (x ∷ a) b equal e h = elim h [ inl l ↦ absurd (omega (arith, l)) | inr r ↦ absurd (omega (arith, e, r)) ]
 
 both : (a b : Bool) → (a && b) ≡ true → (a ≡ true) × (b ≡ true)
 both true b h = (refl, h)

@@ -12,8 +12,8 @@ pub fn same(a: &[u8], b: &[u8]) -> bool
         return false;
     }
     let mut equal = true;
-    for i in 0..a.len() {
-        equal = equal & (a[i] == b[i]);
+    for (x, y) in a.iter().zip(b) {
+        equal &= x == y;
     }
     equal
 }

@@ -20,4 +20,4 @@ returns-clause-moved c =
     let v = value_in next in
     let all = c.filled-turns in
     let after = all.ensures.is v (c.filled-grouped.ensures.is v (after_none next out c.requires.0 c.requires.2)) in
-    data_is v all.new.next all.new.out (length out) all.result (omega arith) (omega arith) (omega arith) after all.ensures.sized.0
+    data_is v all.new.next all.new.out (length out) all.result (omega arith) (omega arith) (omega arith) after (omega arith)

@@ -2,6 +2,7 @@
 use Rattle.std.proofs.Common.{◌≡◌, ℕ, ◌+◌, ◌*◌, ap, ◌∙◌, ap₂, mod-eq_of_lt, arith}
 use Rattle.standard.specs.Strings.{number_of, bytes_of}
 use Rattle.standard.proofs.Strings.{number_of-bytes_of}
+use Rattle.compression.proofs.Bytes.{high_first}
 use Rattle.sums.specs.Limbs.{string_of}
 use Rattle.sums.proofs.Carries.{sum_first, sum_more, sum_whole}
 use Rattle.sums.proofs.total.Goals as goal
@@ -24,7 +25,7 @@ returns c =
     sum_more moved (string_of c.limbs_of-3.result) more a.c _ c.plus-more.ensures one c.limbs_of-3.ensures in
     let three = sum_more more (string_of c.limbs_of-4.result) all n _ c.plus.ensures two c.limbs_of-4.ensures in
     let number : number_of n ≡ a.n =
-    c.widened-2.ensures ∙ ap number_of c.bytes_of-count.ensures ∙ number_of-bytes_of 8 a.n ∙ mod-eq_of_lt (omega arith) in
+    c.widened-2.ensures ∙ ap number_of (c.to_be_bytes.ensures ∙ high_first 8 a.n) ∙ number_of-bytes_of 8 a.n ∙ mod-eq_of_lt (omega arith) in
     sum_whole all c.number_of.result _ _ c.number_of.ensures three
     (ap₂ (λ x y. number_of a.v + x + number_of a.c + y) c.widened.ensures number ∙
     regrouped (number_of a.v) (number_of a.h) (number_of a.c) a.n)

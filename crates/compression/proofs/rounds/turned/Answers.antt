@@ -4,4 +4,4 @@ use Rattle.compression.proofs.rounds.turned.Goals as goal
 
 pub returns : goal.returns
 unfolding turn
-returns c = rw (c.sum-2.ensures, c.sum.ensures, c.t2.ensures, c.t1-t.ensures)
+returns c = rw (c.t2.ensures, c.t1-t.ensures)

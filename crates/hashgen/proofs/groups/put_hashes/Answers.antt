@@ -20,10 +20,7 @@ loop-i-preserved c =
     let inside : 32 * n < length l.out = omega arith in
     let whole : min 32 (length l.out - 32 * n) ≡ 32 = omega arith in
     let stored : new ≡ paste l.out (32 * n) w (min 32 (length l.out - 32 * n)) =
-    c.put.ensures ∙ ap (paste l.out (32 * n) w) (sym whole) in (
-      size ∙ l.invariant.0,
-      λ v hashes filled.
-          subst (λ k. Filled v k new) next
-          (filled-stored v n l.out new w (ap (digest sha256) (hashes l.i (omega arith))) (l.invariant.1 v hashes filled) size inside
-          stored),
-    )
+    c.put.ensures ∙ ap (paste l.out (32 * n) w) (sym whole) in
+    λ v hashes filled.
+    subst (λ k. Filled v k new) next
+    (filled-stored v n l.out new w (ap (digest sha256) (hashes l.i (omega arith))) (l.invariant v hashes filled) size inside stored)

@@ -7,5 +7,5 @@ use Rattle.hashgen.proofs.groups.put_words.Given as goal
 
 abbrev pub invariant-loop-i : goal.invariant-loop-i
 invariant-loop-i l =
-    (length l.limbs ≡ 7) × (length l.words ≡ 64) ×
-    (take (l.from + 2 * l.i) l.words ≡ take l.from l.initial.words ++ schedule sha256 (block_of l.limbs) (2 * l.i))
+    (length l.words ≡ 64) ×
+    (take (l.from + 2 * l.i) l.words ≡ take l.from l.initial.words ++ schedule sha256 (block_of l.limb-items) (2 * l.i))

@@ -11,21 +11,17 @@ use Rattle.hashgen.proofs.singles.filled.Goals as goal
 pub loop-turn-preserved : goal.loop-turn-preserved
 loop-turn-preserved c =
     let l = c.loop-turn in
-    let w = c.hash_of_block-w.result in
+    let w = c.hash_of_block.result in
     let new = c.store.new.out in
     let size : length new ≡ length l.out = c.store.auto.out in
-    let inside : 32 * l.turn < length l.out = c.loop-turn-test.true in (
-      omega arith,
-      size ∙ l.invariant.1,
-      omega arith,
-      λ v first.
-          let after = l.invariant.3 v first in
-          let padded : c.only_block-block.result ≡ turn_block v l.turn =
-          c.only_block-block.ensures ∙ padded-55 (turn_data v l.turn) (string_of l.next) after.ready in
-          let w-is : w ≡ digest sha256 (compressed sha256 sha256.initial (turn_block v l.turn)) =
-          c.hash_of_block-w.ensures ∙ ap (λ b. digest sha256 (compressed sha256 sha256.initial b)) padded in
-          record {
-            ready = c.one_more-further.ensures v l.turn after.ready;
-            filled = filled-stored v l.turn l.out new w w-is after.filled size inside c.store.ensures;
-          },
-    )
+    let inside : 32 * l.turn < length l.out = omega arith in
+    λ v first.
+    let after = l.invariant v first in
+    let padded : c.only_block-block.result ≡ turn_block v l.turn =
+    c.only_block-block.ensures ∙ padded-55 (turn_data v l.turn) (string_of l.next) after.ready in
+    let w-is : w ≡ digest sha256 (compressed sha256 sha256.initial (turn_block v l.turn)) =
+    c.hash_of_block.ensures ∙ ap (λ b. digest sha256 (compressed sha256 sha256.initial b)) padded in
+    record {
+      ready = c.one_more.ensures v l.turn after.ready;
+      filled = filled-stored v l.turn l.out new w w-is after.filled size inside c.store.ensures;
+    }
