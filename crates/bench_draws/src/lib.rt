@@ -1,4 +1,5 @@
 // Openings and draws on numbers and lent slices, for the bench: a generator's two fields go in, and its successor's come back.
+// The exports have C's arguments, numbers among them.
 
 #![tactic(auto)]
 
@@ -11,16 +12,14 @@ fn field_of(s: &[u8]) -> [u8; 55]
     requires { length s.now ≡ 55 }
     ensures { result ≡ s.now }
 {
-    let mut f = [0u8; 55];
-    copies::copy(&mut f, 0, s);
-    f
+    copies::part(s, 0)
 }
 
 fn put(to: &mut [u8], field: [u8; 55])
     requires { length to.old ≡ 55 }
     ensures { to.new ≡ field }
 {
-    copies::copy(to, 0, &field);
+    to.copy_from_slice(&field);
 }
 
 // Whether two fields are whole, and two numbers are within their limits.
@@ -52,10 +51,9 @@ pub extern "C" fn purangsa_bench_open<'a>(
     ) {
         return 0;
     }
-    let none = &entropy[..0];
     let mut a = [0u8; 55];
     let mut b = [0u8; 55];
-    let blocks = generator::opened(mechanism, &mut a, &mut b, entropy, nonce, none);
+    let blocks = generator::opened(mechanism, &mut a, &mut b, entropy, nonce, &[]);
     put(first, a);
     put(second, b);
     blocks

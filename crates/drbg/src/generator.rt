@@ -6,8 +6,12 @@ ghost use Rattle.standard.specs.Sha256.{sha256};
 ghost use Rattle.drbg_shared.specs.Generator.{Fields, state_of, served, filled, holding, led_on};
 ghost use Rattle.drbg.specs.Mechanism.{mechanism_of};
 
-use drbg_hash::generator::{hash_drawn, hash_opened, hash_reseeded};
-use drbg_hmac::generator::{hmac_drawn, hmac_opened, hmac_reseeded};
+use crate::mechanism::Mechanism;
+use drbg_hash::generator::HashDrbg;
+use drbg_hmac::generator::HmacDrbg;
+use drbg_shared::generator::Drbg;
+
+// The doors answer for every number, and say so in each contract: a trait's clauses speak of one mechanism.
 
 // SP 800-90A §9.1, step 9.
 pub fn opened<'a>(
@@ -22,10 +26,10 @@ pub fn opened<'a>(
     ensures is { led_on first.new second.new 1 result
         ≡ served (opening sha256 (mechanism_of mechanism) entropy.now nonce.now personalization.now) }
 {
-    if mechanism == 1 {
-        return hmac_opened(first, second, entropy, nonce, personalization);
+    match Mechanism::from(mechanism) {
+        Mechanism::Hmac => HmacDrbg::opened(first, second, entropy, nonce, personalization),
+        Mechanism::Hash => HashDrbg::opened(first, second, entropy, nonce, personalization),
     }
-    hash_opened(first, second, entropy, nonce, personalization)
 }
 
 // §9.2, step 6.
@@ -45,10 +49,10 @@ pub fn reseeded<'a>(
     ensures few { result ≤ 8288 }
     ensures sized { Fields first.new second.new }
 {
-    if mechanism == 1 {
-        return hmac_reseeded(first, second, entropy, additional);
+    match Mechanism::from(mechanism) {
+        Mechanism::Hmac => HmacDrbg::reseeded(first, second, entropy, additional),
+        Mechanism::Hash => HashDrbg::reseeded(first, second, entropy, additional),
     }
-    hash_reseeded(first, second, entropy, additional)
 }
 
 // §9.3.1, step 8.
@@ -68,10 +72,10 @@ pub fn drawn(
         (length out.old) additional.now) }
     ensures few { result ≤ 8288 }
 {
-    if mechanism == 1 {
-        return hmac_drawn(first, second, additional, out);
+    match Mechanism::from(mechanism) {
+        Mechanism::Hmac => HmacDrbg::drawn(first, second, counter, additional, out),
+        Mechanism::Hash => HashDrbg::drawn(first, second, counter, additional, out),
     }
-    hash_drawn(first, second, counter, additional, out)
 }
 
 // §9.3.1, steps 7 and 8: a reseed leaves the counter at 1.
@@ -92,7 +96,6 @@ pub fn fresh_drawn<'a>(
         (length out.old) entropy.now additional.now) }
 {
     let seeded = reseeded(mechanism, first, second, entropy, additional);
-    let none = &additional[..0];
-    let last = drawn(mechanism, first, second, 1, none, out);
+    let last = drawn(mechanism, first, second, 1, &[], out);
     seeded + last
 }

@@ -3,3 +3,4 @@
 #![tactic(auto)]
 
 pub mod generator;
+pub mod mechanism;

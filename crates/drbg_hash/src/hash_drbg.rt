@@ -1,14 +1,16 @@
-// SP 800-90A §10.1.1: Hash_DRBG over SHA-256.
+// SP 800-90A §10.1.1: Hash_DRBG over SHA-256. V and C are led on in their fields: a struct of both would be a copy of each.
 ghost use Rattle.std.specs.Prelude.{◌≡◌, ◌∷◌, ◌++◌, ◌≤◌, length};
 ghost use Rattle.standard.specs.Hash.{hash};
 ghost use Rattle.standard.specs.HashDrbg.{seeded, refreshed};
 ghost use Rattle.standard.specs.Sha256.{sha256};
+ghost use Rattle.sha256.specs.Seed.{material, Short};
 ghost use Rattle.drbg_shared.specs.Costs.{costing};
 ghost use Rattle.drbg_hash.specs.Seeds.{seed_for, constant_of, state_with};
 
 use crate::hash_df;
 use compression::{digest, rounds};
 use drbg_shared::joined;
+use sha256::strings::Strings;
 
 // §10.1.1.2 and 10.1.1.3, step 4: C from V, in its place.
 fn put_constant(c: &mut [u8; 55], v: &[u8; 55]) -> u64
@@ -16,28 +18,23 @@ fn put_constant(c: &mut [u8; 55], v: &[u8; 55]) -> u64
     ensures count { result ≡ 4 }
 {
     let zero = [0u8];
-    let mark = &zero[..];
-    let none = &mark[..0];
-    hash_df::derive(c, mark, v, none, none, none)
+    hash_df::derive(c, &zero, v, &Strings::one(&[]))
 }
 
 // §10.1.1.2 and 10.1.1.3, steps 2 to 6: V and C in their places. The seed material is a mark and the old V, or nothing of both, then the
 // caller's strings.
-pub fn seed_from<'a>(
+pub fn seed_from(
     v: &mut [u8; 55],
     c: &mut [u8; 55],
     mark: &[u8],
     old: &[u8],
-    first: &'a [u8],
-    second: &'a [u8],
-    third: &'a [u8],
+    strings: &Strings<'_>,
 ) -> u64
     requires mark_len_bound { (length mark.now ≤ 64) × (length old.now ≤ 64) }
-    requires first_len_bound { (length first.now ≤ 1024) × (length second.now ≤ 1024) × (length third.now ≤ 1024) }
-    ensures { seed_for result v.new c.new ≡ seeded sha256
-        (mark.now ++ (old.now ++ (first.now ++ (second.now ++ third.now)))) }
+    requires short { Short strings.now }
+    ensures { seed_for result v.new c.new ≡ seeded sha256 (mark.now ++ (old.now ++ material strings.now)) }
 {
-    let value = hash_df::derive(v, mark, old, first, second, third);
+    let value = hash_df::derive(v, mark, old, strings);
     let constant = put_constant(c, v);
     value + constant
 }
@@ -47,14 +44,11 @@ pub fn refresh(v: &mut [u8; 55], additional: &[u8]) -> u64
     requires { length additional.now ≤ 1024 }
     ensures { costing result v.new ≡ refreshed sha256 additional.now v.old }
 {
-    if additional.len() == 0 {
+    if additional.is_empty() {
         return 0;
     }
-    let mark = [2u8];
-    let none = &additional[..0];
-    let w = joined::hash_joined(&mark, v, none, additional, none, none);
-    let bytes = w.bytes;
-    let grown = sums::total(*v, bytes, [0u8; 55], 0);
+    let w = joined::hash_joined(&[2], v, &[], &Strings::one(additional));
+    let grown = sums::total(*v, w.bytes, [0u8; 55], 0);
     *v = grown;
     w.blocks
 }

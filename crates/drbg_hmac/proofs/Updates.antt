@@ -1,6 +1,6 @@
 -- HMAC_DRBG's update as two halves that differ in the separator. Assumes nothing.
 use mathlib.Core.Path.{◌≡◌, refl, sym, ap, ◌∙◌}
-use mathlib.Core.List.{List, [], ◌++◌, append-nil}
+use mathlib.Core.List.{List}
 use Prim.Native.Nat.{ℕ, ◌+◌, ◌/◌, ◌<◌}
 use native.Mathlib.Nat.{add-zero}
 use native.Mathlib.Omega.{arith}
@@ -15,7 +15,8 @@ use Rattle.standard.proofs.Counts.{half-update-blocks, hmac-blocks}
 use Rattle.standard.proofs.Lengths.{length-filled}
 use Rattle.standard.proofs.Strings.{if_null-nil, if_null-some}
 use Rattle.drbg_shared.specs.Costs.{costing}
-use Rattle.drbg_shared.proofs.Metered.{same_metered, empty}
+use Rattle.std.proofs.lemmas.List.{nil_from_length}
+use Rattle.drbg_shared.proofs.Metered.{same_metered}
 use Rattle.drbg_hmac.specs.Keys.{ready, keyed, keyed_for, half}
 
 pub update_halves : (d : List ℕ) (u : Keyed) → update sha256 d u ≡ (half 0x00 d u >>= λ u. if_null d (return u) (half 0x01 d u))
@@ -41,13 +42,9 @@ module _ (K v : List ℕ) (K-size : length K ≡ 32) (v-size : length v ≡ 32) 
 
 -- an update is its first half alone where nothing is provided, and both halves elsewhere
 pub update-none : (d : List ℕ) (u : Keyed) {r : Metered Keyed} → length d ≡ 0 → r ≡ half 0x00 d u → r ≡ update sha256 d u
-update-none d u none once = once ∙ sym (update_halves d u ∙ rw (empty d none, if_null-nil) (same_metered refl (add-zero _)))
+update-none d u none once = once ∙ sym (update_halves d u ∙ rw (nil_from_length d none, if_null-nil) (same_metered refl (add-zero _)))
 
 pub update-some : (d : List ℕ) (u : Keyed) {K v K₂ v₂ : List ℕ} {n m : ℕ} → 0 < length d → keyed_for n K v ≡ half 0x00 d u
     → keyed_for m K₂ v₂ ≡ half 0x01 d (keyed K v) → keyed_for (n + m) K₂ v₂ ≡ update sha256 d u
 update-some d u {K} {v} some once twice =
     sym (update_halves d u ∙ rw (← once, if_null-some d (return (keyed K v)) (half 0x01 d (keyed K v)) some, ← twice))
-
--- with no strings behind the data
-pub update_alone : (d : List ℕ) (u : Keyed) {r : Metered Keyed} → r ≡ update sha256 (d ++ []) u → r ≡ update sha256 d u
-update_alone d u e = e ∙ ap (λ d. update sha256 d u) (append-nil d)

@@ -1,6 +1,7 @@
-// What both mechanisms share: strings read through as one, and the lent output.
+// What both mechanisms share: what each promises, strings read through as one, and the lent output.
 
 #![tactic(auto)]
 
+pub mod generator;
 pub mod joined;
 pub mod output;

@@ -2,13 +2,11 @@
 ghost use Rattle.std.specs.Prelude.{◌≡◌, ◌-◌, ◌<◌, min, length};
 ghost use Rattle.std.proofs.Math.Seq.{paste};
 
-use sha256::running;
-
 // As much of w as there is room for from `at` on.
 pub fn store(out: &mut [u8], at: usize, w: [u8; 32])
     requires { at < length out.old }
     ensures { out.new ≡ paste out.old at w (min 32 (length out.old - at)) }
 {
-    let n = running::least(32, out.len() - at);
+    let n = (out.len() - at).min(32);
     copies::copy(out, at, &w[..n]);
 }

@@ -1,7 +1,7 @@
 -- A message's last blocks as the code makes them: one where the length still fits behind the marked byte, else two. Assumes nothing.
 use mathlib.Core.Path.{◌≡◌, sym, ap, ap₂, subst, ◌∙◌}
 use mathlib.Core.List.{List, ◌∷◌, ◌++◌, append_assoc}
-use Prim.Native.Nat.{ℕ, ◌+◌, ◌-◌, ◌*◌, ◌%◌, ◌≤◌, ◌<◌}
+use Prim.Native.Nat.{ℕ, ◌+◌, ◌-◌, ◌*◌, ◌%◌, ◌^◌, ◌≤◌, ◌<◌}
 use native.Mathlib.Omega.{arith}
 use lib.ListN.{length, take, replicate, length-append, length-replicate, replicate-append-replicate}
 use lib.Seq.{take_at}
@@ -13,10 +13,10 @@ use Rattle.sha256.specs.declared.running.Running.{Running}
 use Rattle.sha256.proofs.Feeding.{fed-whole, fed_then}
 use Rattle.standard.proofs.Strings.{length-bytes_of, bytes_of_mod}
 
-length-field : (n : ℕ) → bytes_of 8 (n % 2305843009213693952 * 8) ≡ bytes_of 8 (8 * n)
+length-field : (n : ℕ) → bytes_of 8 (n * 8 % 2 ^ 64) ≡ bytes_of 8 (8 * n)
 length-field n =
-    let same : n % 2305843009213693952 * 8 ≡ 8 * n % 18446744073709551616 = omega arith in
-    ap (bytes_of 8) same ∙ bytes_of_mod 8 (8 * n)
+    let same : n * 8 ≡ 8 * n = omega arith in
+    bytes_of_mod 8 (n * 8) ∙ ap (bytes_of 8) same
 
 module _ (p : List ℕ) (blocks fill : ℕ) (filled : length p ≡ fill) where
   length-padding-one : fill < 56 → length (padding sha256 (64 * blocks + fill)) ≡ 64 - fill
@@ -24,7 +24,7 @@ module _ (p : List ℕ) (blocks fill : ℕ) (filled : length p ≡ fill) where
   length-padding-one few = simp (length-append, length-replicate, length-bytes_of) (omega arith)
 
   last_of_one :
-      fill < 56 → take 56 (p ++ (0x80 ∷ replicate (63 - fill) 0)) ++ bytes_of 8 ((64 * blocks + fill) % 2305843009213693952 * 8)
+      fill < 56 → take 56 (p ++ (0x80 ∷ replicate (63 - fill) 0)) ++ bytes_of 8 ((64 * blocks + fill) * 8 % 2 ^ 64)
       ≡ p ++ padding sha256 (64 * blocks + fill)
   unfolding padding zeros
   last_of_one few =
@@ -42,7 +42,7 @@ module _ (p : List ℕ) (blocks fill : ℕ) (filled : length p ≡ fill) where
 
   last_of_two :
       56 ≤ fill → fill < 64
-      → (0x80 ∷ replicate (63 - fill) 0) ++ (replicate 56 0 ++ bytes_of 8 ((64 * blocks + fill) % 2305843009213693952 * 8))
+      → (0x80 ∷ replicate (63 - fill) 0) ++ (replicate 56 0 ++ bytes_of 8 ((64 * blocks + fill) * 8 % 2 ^ 64))
       ≡ padding sha256 (64 * blocks + fill)
   unfolding padding zeros
   last_of_two many few =
@@ -62,7 +62,7 @@ module _ (h : Running) (first : List ℕ) (size : length first ≡ 64) (few : h.
   mark = 0x80 ∷ replicate (63 - h.waiting) 0
 
   abbrev field : List ℕ
-  field = bytes_of 8 (bytes_read h % 2305843009213693952 * 8)
+  field = bytes_of 8 (bytes_read h * 8 % 2 ^ 64)
 
   length_waits : length waits ≡ h.waiting
   length_waits =

@@ -9,10 +9,10 @@ use native.Mathlib.Omega.{arith}
 use lib.ListN.{length, take, drop, length-append, length-take, length-drop}
 use lib.Seq.{take-add, take_all, take-append-le, drop-append-le, drop-append-add}
 use borrow.Author.Tests.{lt-ltb, le-ltb}
-use denote.Ref.{Bor}
 use Rattle.sha256.specs.Fed.{Fed, Room}
-use Rattle.sha256.specs.Seed.{string_end, Ready, ReadOn, material, size, Advanced}
+use Rattle.sha256.specs.Seed.{string_end, end_of, Ready, ReadOn, material, size, Advanced}
 use Rattle.sha256.specs.declared.running.Running.{Running}
+use Rattle.sha256.specs.declared.strings.Strings.{Strings}
 use Rattle.sha256.specs.declared.reader.Place.{Place}
 use Rattle.sha256.specs.declared.reader.Reader.{Reader}
 use Rattle.sha256.proofs.Feeding.{fed_then, fed-none}
@@ -67,31 +67,40 @@ drop-behind at s t behind =
     let sum : at ≡ length s + (at - length s) = omega (arith, behind) in
     ap (λ k. drop k (s ++ t)) sum ∙ drop-append-add s t (at - length s)
 
-module _ (e n p : List ℕ) where
-  abbrev end : ℕ → ℕ
-  end at = string_end (length e) (length n) (length p) at
+module _ (s : Strings) where
+  abbrev e : List ℕ
+  e = s.first.now
 
-  pub ahead : (at : ℕ) → at ≤ length e + length n + length p → at ≤ end at
+  abbrev n : List ℕ
+  n = s.second.now
+
+  abbrev p : List ℕ
+  p = s.third.now
+
+  abbrev end : ℕ → ℕ
+  end at = end_of s at
+
+  pub ahead : (at : ℕ) → at ≤ size s → at ≤ end at
   ahead at = end_ahead (length e) (length n) (length p) at
 
-  pub inside : (at : ℕ) → end at ≤ length e + length n + length p
+  pub inside : (at : ℕ) → end at ≤ size s
   inside at = end-inside (length e) (length n) (length p) at
 
   -- the rest of the string that a place stands in, for each of the three
-  pub rest-first : (at : ℕ) → at < length e → take (length e - at) (drop at e) ≡ take (end at - at) (drop at (e ++ (n ++ p)))
+  pub rest-first : (at : ℕ) → at < length e → take (length e - at) (drop at e) ≡ take (end at - at) (drop at (material s))
   rest-first at here =
       let is = end_of_first (length e) (length n) (length p) at here in
-      sym (ap (λ k. take (k - at) (drop at (e ++ (n ++ p)))) is ∙ rest-here at e (n ++ p) (omega (arith, here)))
+      sym (ap (λ k. take (k - at) (drop at (material s))) is ∙ rest-here at e (n ++ p) (omega (arith, here)))
 
   pub rest-second : (at : ℕ) → length e ≤ at → at < length e + length n
-      → take (length n - (at - length e)) (drop (at - length e) n) ≡ take (end at - at) (drop at (e ++ (n ++ p)))
+      → take (length n - (at - length e)) (drop (at - length e) n) ≡ take (end at - at) (drop at (material s))
   rest-second at behind here =
       let is = end_of_second (length e) (length n) (length p) at behind here in
       let left : end at - at ≡ length n - (at - length e) = omega (arith, is, behind) in
       sym (ap₂ take left (drop-behind at e (n ++ p) behind) ∙ rest-here (at - length e) n p (omega (arith, behind, here)))
 
   pub rest-third : (at : ℕ) → length e + length n ≤ at
-      → take (length p - (at - length e - length n)) (drop (at - length e - length n) p) ≡ take (end at - at) (drop at (e ++ (n ++ p)))
+      → take (length p - (at - length e - length n)) (drop (at - length e - length n) p) ≡ take (end at - at) (drop at (material s))
   rest-third at behind =
       let is = end_of_third (length e) (length n) (length p) at behind in
       let left : end at - at ≡ length p - (at - length e - length n) = omega (arith, is, behind) in
@@ -100,31 +109,31 @@ module _ (e n p : List ℕ) where
       sym (ap₂ take left (drop-behind at e (n ++ p) first ∙ drop-behind (at - length e) n p second))
 
   -- what a reading reads is as long as the place moves
-  pub length_rest : (at : ℕ) {s : List ℕ} → s ≡ take (end at - at) (drop at (e ++ (n ++ p))) → length s ≡ end at - at
+  pub length_rest : (at : ℕ) {t : List ℕ} → t ≡ take (end at - at) (drop at (material s)) → length t ≡ end at - at
   length_rest at is =
       ap length is ∙
-      length-take (end at - at) (drop at (e ++ (n ++ p))) ∙
-      omega (arith, inside at, length-drop at (e ++ (n ++ p)), length-append e (n ++ p), length-append n p)
+      length-take (end at - at) (drop at (material s)) ∙
+      omega (arith, inside at, length-drop at (material s), length-append e (n ++ p), length-append n p)
 
   -- and it is what stands between the two places
-  pub rest-between : (at : ℕ) {s : List ℕ} → s ≡ take (end at - at) (drop at (e ++ (n ++ p)))
-      → s ≡ take (at + length s - at) (drop at (e ++ (n ++ p)))
-  rest-between at {s} is =
-      let moves : end at - at ≡ at + length s - at = omega (arith, length_rest at is) in
-      is ∙ ap (λ k. take k (drop at (e ++ (n ++ p)))) moves
+  pub rest-between : (at : ℕ) {t : List ℕ} → t ≡ take (end at - at) (drop at (material s))
+      → t ≡ take (at + length t - at) (drop at (material s))
+  rest-between at {t} is =
+      let moves : end at - at ≡ at + length t - at = omega (arith, length_rest at is) in
+      is ∙ ap (λ k. take k (drop at (material s))) moves
 
-  module _ {a b : Place} (on : ReadOn e n p a b) where
+  module _ {a b : Place} (on : ReadOn s a b) where
     -- h has read up to one place: so it has up to the next
-    read-on : {h : Running} → a.at ≤ length e + length n + length p → Fed h (take a.at (e ++ (n ++ p))) a.hash
-        → Fed h (take b.at (e ++ (n ++ p))) b.hash
+    read-on : {h : Running} → a.at ≤ size s → Fed h (take a.at (material s)) a.hash
+        → Fed h (take b.at (material s)) b.hash
     read-on {h} here fed =
         let far : a.at + (b.at - a.at) ≡ b.at = omega (arith, on.moved, ahead a.at here) in
-        subst (λ x. Fed h x b.hash) (sym (take-add a.at (b.at - a.at) (e ++ (n ++ p))) ∙ ap (λ k. take k (e ++ (n ++ p))) far)
+        subst (λ x. Fed h x b.hash) (sym (take-add a.at (b.at - a.at) (material s)) ∙ ap (λ k. take k (material s)) far)
         (fed_then fed on.fed)
 
-    still_ready : Ready (length e + length n + length p) a → Ready (length e + length n + length p) b
+    still_ready : Ready (size s) a → Ready (size s) b
     still_ready ready =
-        let read = length_rest a.at (ap (λ k. take (k - a.at) (drop a.at (e ++ (n ++ p)))) on.moved) in
+        let read = length_rest a.at (ap (λ k. take (k - a.at) (drop a.at (material s))) on.moved) in
         let near = inside a.at in
         let far = ahead a.at ready.inside in
         record {
@@ -134,46 +143,35 @@ module _ (e n p : List ℕ) where
         }
 
   -- three readings from the beginning
-  read_three : {a b c d : Place} → a.at ≡ 0 → Ready (length e + length n + length p) a
-      → ReadOn e n p a b → ReadOn e n p b c → ReadOn e n p c d → Fed a.hash (e ++ (n ++ p)) d.hash
+  read_three : {a b c d : Place} → a.at ≡ 0 → Ready (size s) a
+      → ReadOn s a b → ReadOn s b c → ReadOn s c d → Fed a.hash (material s) d.hash
   read_three {a} {b} {c} {d} start ready one two three =
-      let all = length e + length n + length p in
+      let all = size s in
       let here = still_ready one ready in
       let there = still_ready two here in
-      let nothing : Fed a.hash (take a.at (e ++ (n ++ p))) a.hash =
-      subst (λ k. Fed a.hash (take k (e ++ (n ++ p))) a.hash) (sym start) (fed-none a.hash ready.room.few) in
+      let nothing : Fed a.hash (take a.at (material s)) a.hash =
+      subst (λ k. Fed a.hash (take k (material s)) a.hash) (sym start) (fed-none a.hash ready.room.few) in
       let first : length e ≤ b.at = omega (arith, one.moved, first_reached (length e) (length n) (length p) a.at) in
       let second : length e + length n ≤ c.at =
       omega (arith, two.moved, second_reached (length e) (length n) (length p) b.at first) in
       let last : d.at ≡ all = three.moved ∙ end_of_third (length e) (length n) (length p) c.at second in
-      let whole : length (e ++ (n ++ p)) ≤ d.at = omega (arith, last, length-append e (n ++ p), length-append n p) in
-      subst (λ x. Fed a.hash x d.hash) (take_all d.at (e ++ (n ++ p)) whole)
+      let whole : length (material s) ≤ d.at = omega (arith, last, length-append e (n ++ p), length-append n p) in
+      subst (λ x. Fed a.hash x d.hash) (take_all d.at (material s) whole)
       (read-on three there.inside (read-on two here.inside (read-on one ready.inside nothing)))
 
 -- ---- readers
-abbrev strings_of : Reader → Place → Reader
-strings_of r place = record { entropy = r.entropy; nonce = r.nonce; personalization = r.personalization; place = place }
-
 -- a hash with room for all of the one string is ready to read it from its beginning
-pub ready-first : (e n p : Bor (List ℕ)) (h : Running) → Room h (length e.now + length n.now + length p.now)
-    → Ready (length e.now + length n.now + length p.now) (record { at = 0; hash = h })
-ready-first e n p h room =
+pub ready-first : (s : Strings) (h : Running) → Room h (size s) → Ready (size s) (record { at = 0; hash = h })
+ready-first s h room =
     record { few = omega (arith, room.room); inside = omega arith; room = record { few = room.few; room = omega (arith, room.room) } }
 
-pub ready-then : {r q : Reader} → Advanced r q → Ready (size r) r.place → Ready (size q) q.place
-ready-then {r} {q} on ready =
-    subst (λ x. Ready (size x) q.place) (sym on.strings)
-    (still_ready r.entropy.now r.nonce.now r.personalization.now on.read ready)
+pub ready-then : {r q : Reader} → Advanced r q → Ready (size r.strings) r.place → Ready (size q.strings) q.place
+ready-then {r} {q} on ready = subst (λ x. Ready (size x.strings) q.place) (sym on.strings) (still_ready r.strings on.read ready)
 
--- a reading of strings that another reader has too
-read_of : (r : Reader) {q : Reader} {a b : Place} → q ≡ strings_of r q.place
-    → ReadOn q.entropy.now q.nonce.now q.personalization.now a b
-    → ReadOn r.entropy.now r.nonce.now r.personalization.now a b
-read_of r {q} {a} {b} same = subst (λ x. ReadOn x.entropy.now x.nonce.now x.personalization.now a b) same
-
-pub read_thrice : {r₀ r₁ r₂ r₃ : Reader} → r₀.place.at ≡ 0 → Ready (size r₀) r₀.place
-    → Advanced r₀ r₁ → Advanced r₁ r₂ → Advanced r₂ r₃ → Fed r₀.place.hash (material r₀) r₃.place.hash
+pub read_thrice : {r₀ r₁ r₂ r₃ : Reader} → r₀.place.at ≡ 0 → Ready (size r₀.strings) r₀.place
+    → Advanced r₀ r₁ → Advanced r₁ r₂ → Advanced r₂ r₃ → Fed r₀.place.hash (material r₀.strings) r₃.place.hash
 read_thrice {r₀} {r₁} {r₂} {r₃} start ready one two three =
-    let same : r₂ ≡ strings_of r₀ r₂.place = subst (λ x. r₂ ≡ strings_of x r₂.place) one.strings two.strings in
-    read_three r₀.entropy.now r₀.nonce.now r₀.personalization.now start ready
-    one.read (read_of r₀ one.strings two.read) (read_of r₀ same three.read)
+    let once : r₁.strings ≡ r₀.strings = ap (λ (r : Reader). r.strings) one.strings in
+    let twice : r₂.strings ≡ r₀.strings = ap (λ (r : Reader). r.strings) two.strings ∙ once in
+    read_three r₀.strings start ready one.read
+    (subst (λ s. ReadOn s r₁.place r₂.place) once two.read) (subst (λ s. ReadOn s r₂.place r₃.place) twice three.read)

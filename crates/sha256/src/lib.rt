@@ -5,3 +5,4 @@
 pub mod padding;
 pub mod reader;
 pub mod running;
+pub mod strings;

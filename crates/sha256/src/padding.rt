@@ -9,9 +9,7 @@ pub fn marked(old: [u8; 64], fill: usize) -> [u8; 64]
 {
     let mut block = old;
     block[fill] = 128;
-    for i in fill + 1..64 {
-        block[i] = 0;
-    }
+    block[fill + 1..].fill(0);
     block
 }
 
@@ -20,12 +18,6 @@ pub fn with_length(old: [u8; 64], bits: u64) -> [u8; 64]
     ensures { result ≡ take 56 old ++ bytes_of 8 bits }
 {
     let mut block = old;
-    let mut rest = bits;
-    let mut i = 64;
-    while 56 < i {
-        i -= 1;
-        block[i] = (rest % 256) as u8;
-        rest = rest / 256;
-    }
+    block[56..].copy_from_slice(&bits.to_be_bytes());
     block
 }

@@ -1,6 +1,6 @@
 // The running hash: a value that each absorbed block hands on. A block that lies whole inside a lent string is hashed from
 // that string; one that straddles an end, or holds padding, goes through the scratch block.
-ghost use Rattle.std.specs.Prelude.{◌≡◌, cond, List, [], ◌++◌, ℕ, ◌+◌, ◌-◌, ◌*◌, ◌^◌, ◌≤◌, ◌<◌, min, ltb, length, take, drop};
+ghost use Rattle.std.specs.Prelude.{◌≡◌, cond, List, [], ◌++◌, ℕ, ◌+◌, ◌*◌, ◌^◌, ◌≤◌, ◌<◌, ltb, length, take};
 ghost use Rattle.standard.specs.Hash.{padding, padded, hash};
 ghost use Rattle.standard.specs.Sha256.{sha256};
 ghost use Rattle.sha256.specs.Values.{digest_of};
@@ -26,35 +26,24 @@ pub struct Digest {
     pub blocks: u64,
 }
 
-pub fn least(a: usize, b: usize) -> usize
-    ensures { result ≡ min a b }
-{
-    if a < b { a } else { b }
-}
-
-// Scratch with n bytes of s, from `at` on, behind the first `fill`.
-fn gathered(old: [u8; 64], fill: usize, s: &[u8], at: usize, n: usize) -> [u8; 64]
-    requires { (fill + n ≤ 64) × (at + n ≤ length s.now) }
-    ensures { take (fill + n) result ≡ take fill old ++ take n (drop at s.now) }
+// Scratch with the bytes of s behind the first `fill`.
+fn gathered(old: [u8; 64], fill: usize, s: &[u8]) -> [u8; 64]
+    requires { fill + length s.now ≤ 64 }
+    ensures { take (fill + length s.now) result ≡ take fill old ++ s.now }
 {
     let mut scratch = old;
-    let mut i = 0;
-    while i < n {
-        scratch[fill + i] = s[at + i];
-        i += 1;
-    }
+    copies::copy(&mut scratch, fill, s);
     scratch
 }
 
-// The next block: the part of the lent string where all 64 bytes are in it, else scratch.
-fn pick<'a>(s: &'a [u8], scratch: &'a [u8; 64], at: usize, n: usize) -> &'a [u8]
-    requires { at + n ≤ length s.now }
-    ensures { result.now ≡ cond (ltb n 64) scratch.now (take 64 (drop at s.now)) }
+// The next block: the part of the lent string where it is a whole one, else scratch.
+fn pick<'a>(part: &'a [u8], scratch: &'a [u8; 64]) -> &'a [u8]
+    ensures { result.now ≡ cond (ltb (length part.now) 64) scratch.now part.now }
 {
-    if n < 64 {
+    if part.len() < 64 {
         return &scratch[..];
     }
-    &s[at..at + 64]
+    part
 }
 
 impl Running {
@@ -62,9 +51,8 @@ impl Running {
     pub fn new() -> Running
         ensures { HasRead [] result }
     {
-        let words = rounds::initial();
         Running {
-            words,
+            words: rounds::initial(),
             blocks: 0,
             scratch: [0u8; 64],
             waiting: 0,
@@ -75,35 +63,31 @@ impl Running {
         requires { (length block.now ≡ 64) × (self.blocks + 1 < 2 ^ 64) }
         ensures { Absorbed self block.now result }
     {
-        let old = self.words;
-        let words = rounds::compress(old, block);
-        let scratch = self.scratch;
         Running {
-            words,
+            words: rounds::compress(self.words, block),
             blocks: self.blocks + 1,
-            scratch,
             waiting: 0,
+            ..self
         }
     }
 
-    // The next n bytes of s, at most to the end of a block.
-    fn step(self, s: &[u8], at: usize, n: usize) -> Running
-        requires { (self.waiting + n ≤ 64) × (at + n ≤ length s.now) × (self.blocks + 1 < 2 ^ 64) }
-        ensures { Fed self (take n (drop at s.now)) result }
+    // The next part of a string, at most to the end of a block.
+    fn step(self, part: &[u8]) -> Running
+        requires { (self.waiting + length part.now ≤ 64) × (self.blocks + 1 < 2 ^ 64) }
+        ensures { Fed self part.now result }
     {
         let fill = self.waiting;
-        let old = self.scratch;
-        let scratch = gathered(old, fill, s, at, n % 64);
+        let n = part.len();
+        // A whole block is absorbed from where it lies.
+        let scratch = gathered(self.scratch, fill, &part[..n % 64]);
         if fill + n < 64 {
-            let words = self.words;
             return Running {
-                words,
-                blocks: self.blocks,
                 scratch,
                 waiting: fill + n,
+                ..self
             };
         }
-        self.absorb(pick(s, &scratch, at, n))
+        self.absorb(pick(part, &scratch))
     }
 
     // All of s.
@@ -112,12 +96,12 @@ impl Running {
         ensures { Fed self s.now result }
     {
         let mut h = self;
-        let mut at = 0;
-        while at < s.len() {
-            let fill = h.waiting;
-            let n = least(64 - fill, s.len() - at);
-            h = h.step(s, at, n);
-            at += n;
+        let mut rest = s;
+        while !rest.is_empty() {
+            let n = (64 - h.waiting).min(rest.len());
+            let (part, behind) = rest.split_at(n);
+            h = h.step(part);
+            rest = behind;
         }
         h
     }
@@ -128,9 +112,8 @@ impl Running {
         ensures { Fed self (padding sha256 (64 * self.blocks + self.waiting)) result }
     {
         let fill = self.waiting;
-        let old = self.scratch;
-        let bits = (64 * self.blocks + fill as u64) % 2305843009213693952 * 8;
-        let first = padding::marked(old, fill);
+        let bits = (64 * self.blocks + fill as u64).wrapping_mul(8);
+        let first = padding::marked(self.scratch, fill);
         if fill < 56 {
             let last = padding::with_length(first, bits);
             return self.absorb(&last);
@@ -144,10 +127,8 @@ impl Running {
     pub fn digest(self) -> Digest
         ensures { (m : List ℕ) → HasRead (padded sha256 m) self → digest_of result ≡ hash sha256 m }
     {
-        let s = self.words;
-        let bytes = digest::bytes_of(s);
         Digest {
-            bytes,
+            bytes: digest::bytes_of(self.words),
             blocks: self.blocks,
         }
     }

@@ -2,5 +2,5 @@
 use Rattle.drbg_hmac.proofs.Pads.{hmac-is}
 use Rattle.drbg_hmac.proofs.hmac.hmac_of.Goals as goal
 
-pub returns-clause-is : goal.returns-clause-is
-returns-clause-is c = hmac-is _ _ _ _ 2 c.hash_behind-inner.ensures c.hash_behind-outer.ensures
+pub returns : goal.returns
+returns c = hmac-is _ _ _ _ 2 c.hash_behind-inner.ensures c.hash_behind.ensures

@@ -3,6 +3,7 @@ use Rattle.std.proofs.Common.{◌++◌, ◌∷◌, ap, ◌∙◌, length-append,
 use Rattle.standard.specs.Hash.{hash}
 use Rattle.standard.specs.Sha256.{sha256}
 use Rattle.standard.proofs.Counts.{sha256-hash}
+use Rattle.sha256.specs.Seed.{material}
 use Rattle.drbg_hmac.proofs.Pads.{hmac-is}
 use Rattle.drbg_hmac.proofs.hmac.hmac_of_all.Goals as goal
 
@@ -13,6 +14,6 @@ overflow_add-result c =
 pub returns : goal.returns
 returns c =
     let a = c.args in
-    let text = a.v.now ++ (a.separator ∷ (a.first.now ++ (a.second.now ++ a.third.now))) in
+    let text = a.v.now ++ (a.separator ∷ material a.strings.now) in
     let behind = c.hash_joined-inner.ensures ∙ ap (λ p. hash sha256 (p ++ text)) c.pad_block-inner_pad.ensures in
-    hmac-is a.key.now text _ _ _ behind c.hash_behind-outer.ensures
+    hmac-is a.key.now text _ _ _ behind c.hash_behind.ensures

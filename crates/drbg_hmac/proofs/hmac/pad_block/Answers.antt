@@ -18,7 +18,7 @@ loop-i-preserved c =
       take_more_set l.block l.i _ (omega arith) ∙
           ap (λ p. p ++ (bit_xor (get_or key l.i 0) c.args.pad ∷ [])) l.invariant.1 ∙
           xored-more c.args.pad key l.i (omega arith),
-      drop-set-lt 32 l.block l.i _ c.loop-i-test.true ∙ l.invariant.2,
+      drop-set-lt 32 l.block l.i _ (omega arith) ∙ l.invariant.2,
     )
 
 pub returns : goal.returns
@@ -27,4 +27,4 @@ returns c =
     let all : l.i ≡ 32 = omega arith in
     sym (take-append-drop 32 l.block) ∙
     ap₂ ◌++◌ (rw all at l.invariant.1) l.invariant.2 ∙
-    xored-filled c.args.pad c.args.key.now c.requires
+    xored-filled c.args.pad c.args.key.now (omega arith)

@@ -9,6 +9,6 @@ pub returns : goal.returns
 returns c =
     let a = c.args in
     let made = c.new.ensures in
-    let ready = subst (λ r. Ready (size r) r.place) (sym made) (ready-first a.entropy a.nonce a.personalization a.h c.requires) in
-    subst (λ r. Fed r.place.hash (material r) c.read-end.result.place.hash) made
+    let ready = subst (λ r. Ready (size r.strings) r.place) (sym made) (ready-first a.strings.now a.h c.requires) in
+    subst (λ r. Fed r.place.hash (material r.strings) c.read-end.result.place.hash) made
     (read_thrice (subst (λ r. r.place.at ≡ 0) (sym made) refl) ready c.read.ensures c.read-2.ensures c.read-end.ensures)

@@ -6,4 +6,4 @@ use Rattle.sha256.proofs.running.Running.digest.Goals as goal
 pub returns : goal.returns
 returns c = λ m has.
     let h = c.args.self in
-    ap (λ b. record { value = b; blocks = h.blocks }) c.bytes_of-bytes.ensures ∙ sym (hash_of_read m h has)
+    ap (λ b. record { value = b; blocks = h.blocks }) c.bytes_of.ensures ∙ sym (hash_of_read m h has)

@@ -5,4 +5,4 @@ use Rattle.sha256.proofs.running.Running.new.Goals as goal
 
 pub returns : goal.returns
 unfolding absorbed
-returns c = record { length_is = refl; words_are = c.initial-words.ensures; few = lit< tt; rest_waits = refl }
+returns c = record { length_is = refl; words_are = c.initial.ensures; few = lit< tt; rest_waits = refl }

@@ -5,7 +5,7 @@ use Rattle.drbg_hmac.specs.Keys.{keyed}
 use Rattle.drbg_shared.specs.Generator.{served}
 use Rattle.drbg_hmac.proofs.Pads.{key-ready}
 use Rattle.drbg_hmac.proofs.Standing.{kept-update}
-use Rattle.drbg_hmac.proofs.generator.hmac_opened.Goals as goal
+use Rattle.drbg_hmac.proofs.generator.HmacDrbgDrbg.opened.Goals as goal
 
 pub returns-clause-is : goal.returns-clause-is
 unfolding instantiate served
@@ -13,6 +13,6 @@ returns-clause-is c =
     let a = c.args in
     let seed = a.entropy.now ++ (a.nonce.now ++ a.personalization.now) in
     let u = keyed (replicate 32 0) (replicate 32 1) in
-    let r = c.update_all-blocks in
-    kept-update seed u r.new.key r.new.v r.result 1 r.ensures.is c.put_front.ensures.is c.put_front-2.ensures.is ∙
+    let r = c.update-blocks in
+    kept-update seed u r.new.self.key r.new.self.v r.result 1 r.ensures c.put.ensures.is c.put-2.ensures.is ∙
     sym (rw (key-ready (replicate 32 0) refl, zero-add, add-zero))

@@ -1,7 +1,7 @@
 -- The seed from the caller's three strings; V and C fill their fields. Assumes nothing.
 use Rattle.standard.specs.HashDrbg.{instantiate}
 use Rattle.drbg_hash.proofs.Standing.{served_seed}
-use Rattle.drbg_hash.proofs.generator.hash_opened.Goals as goal
+use Rattle.drbg_hash.proofs.generator.HashDrbgDrbg.opened.Goals as goal
 
 pub returns-clause-is : goal.returns-clause-is
 unfolding instantiate
