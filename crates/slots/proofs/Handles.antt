@@ -1,68 +1,35 @@
 -- Handles, and the lowest free slot. Assumes nothing.
-use Rattle.std.proofs.Common.{◌≡◌, ℕ, zero, suc, ◌+◌, ◌-◌, ◌/◌, ◌%◌, ◌<◌, ◌≤◌, Bool, true, false, cond, not, ◌&&◌, eqb, ◌⊎◌, sym, refl}
-use Rattle.std.proofs.Common.{ap, ◌∙◌, subst, inl, inr, ⊎_elim, le-add_right, arith, eq-eqb, ne_eqb, eqb-true}
-use native.Mathlib.Decide.{dec_lt}
+use Rattle.std.proofs.Common.{◌≡◌, ℕ, zero, suc, ◌+◌, ◌-◌, ◌/◌, ◌%◌, ◌<◌, ◌≤◌, true, false, Some, None, Option, MatchOption, unwrap_or, sym}
+use Rattle.std.proofs.Common.{◌∙◌, arith, tests}
 use Rattle.slots.specs.Layout.{slot_at, last_serial, fresh_table, Table}
 use Rattle.slots.specs.Sound.{sound}
 use Rattle.slots.specs.Handle.{handle_of, in_use, slot_of, names, look_up, named, lowest_free}
-use Rattle.slots.specs.declared.slot.Slot.{Slot}
-use Rattle.slots.specs.declared.handle.Found.TheVariants.{At, Nothing}
-use Rattle.slots.proofs.Flags.{both, and_both, by_test}
+use Rattle.std.proofs.lemmas.Bool.{and_parts}
 use Rattle.slots.proofs.Slots.{slot_at-fresh}
 use Rattle.slots.proofs.Soundness.{Used, sound-at, sound-used}
 
-not_both : {m n : ℕ} → m ≤ n → n < m → ⊥
-not_both h l = omega arith
-
-le-cases : {m n : ℕ} → m ≤ n → (m + 1 ≤ n) ⊎ (m ≡ n)
-le-cases {m} {n} h = go (dec_lt m n)
-  where
-    go : Dec (m < n) → (m + 1 ≤ n) ⊎ (m ≡ n)
-    go (yes l) = inl (omega arith)
-    go (no l) = inr (omega (arith, l))
-
-zero-is-not-one : ◌≡◌ {A = ℕ} 0 1 → ⊥
-zero-is-not-one h = omega arith
-
--- by the test of the handle's slot
-pub look_up_by : (t : Table) (handle : ℕ) (s : Slot) (named : Bool) → s ≡ slot_of t handle
-    → (in_use s && eqb s.serial (handle / 16)) ≡ named → cond named (At (handle % 16)) Nothing ≡ look_up t handle
-unfolding look_up names
-look_up_by t handle s named here test =
-    ap (λ b. cond b (At (handle % 16)) Nothing) (sym test ∙ ap (λ u. in_use u && eqb u.serial (handle / 16)) here)
-
 module _ (t : Table) (handle : ℕ) where
   -- what a look-up tells
-  pub found_at : (i : ℕ) → look_up t handle ≡ At i → (i ≡ handle % 16) × (names t handle ≡ true)
+  pub found_at : (i : ℕ) → look_up t handle ≡ Some i → (i ≡ handle % 16) × (names t handle ≡ true)
   unfolding look_up
-  found_at i = go (names t handle)
-    where
-      go : (named : Bool) → cond named (At (handle % 16)) Nothing ≡ At i → (i ≡ handle % 16) × (named ≡ true)
-      go true e = (cc, refl)
-      go false e = let never : ◌≡◌ {A = ℕ} 0 1 = cc in absurd (zero-is-not-one never)
+  found_at i h = grind (arith, tests)
 
   pub named-is : named (look_up t handle) ≡ names t handle
   unfolding look_up
-  named-is = go (names t handle)
-    where
-      go : (b : Bool) → named (cond b (At (handle % 16)) Nothing) ≡ b
-      go true = refl
-      go false = refl
+  named-is = grind (arith, tests)
 
   -- a handle that names a generator: its slot is in use, with its serial
   pub names-used : names t handle ≡ true → in_use (slot_of t handle) ≡ true
   unfolding names
-  names-used h = (both _ _ h).0
+  names-used h = (and_parts _ _ h).0
 
   pub names-serial : names t handle ≡ true → (slot_of t handle).serial ≡ handle / 16
   unfolding names
-  names-serial h =
-      let s = slot_of t handle in
-      eqb-true s.serial (handle / 16) (both (in_use s) (eqb s.serial (handle / 16)) h).1
+  names-serial h = grind (arith, tests)
 
   pub names_by : in_use (slot_of t handle) ≡ true → (slot_of t handle).serial ≡ handle / 16 → names t handle ≡ true
   unfolding names
-  names_by used serial = and_both used (eq-eqb (slot_of t handle).serial (handle / 16) serial)
+  names_by used serial = grind (arith, tests)
 
   pub slot_below : handle % 16 < 16
   slot_below = omega arith
@@ -87,58 +54,40 @@ unfolding names
 names_fresh handle = rw (slot_at-fresh (handle % 16) (slot_below fresh_table handle))
 
 module _ (t : Table) where
-  step : (i to : ℕ) (used : Bool) → i < to → in_use (slot_at t i) ≡ used
-      → lowest_free t i (to - i) ≡ cond used (lowest_free t (i + 1) (to - (i + 1))) i
+  -- with none free
+  lowest_none : (from n : ℕ) → ((k : ℕ) → from ≤ k → k < from + n → in_use (slot_at t k) ≡ true) → lowest_free t from n ≡ from + n
   unfolding lowest_free
-  step i to used room test =
-      let more : to - i ≡ suc (to - (i + 1)) = omega arith in
-      rw more (ap (λ b. cond b (lowest_free t (i + 1) (to - (i + 1))) i) test)
+  lowest_none from zero h = grind arith
+  lowest_none from (suc n) h = grind (arith, tests, lowest_none (from + 1) n)
 
-  -- slot i is free
-  pub lowest_here : (i to : ℕ) (s : Slot) → s ≡ slot_at t i → i < to → s.mechanism ≡ 0 → lowest_free t i (to - i) ≡ i
-  lowest_here i to s here room free =
-      step i to false room (ap in_use (sym here) ∙ ap not (eq-eqb s.mechanism 0 free))
-
-  -- or is not
-  pub lowest_next : (i to : ℕ) (s : Slot) → s ≡ slot_at t i → i < to → (s.mechanism ≡ 0 → ⊥)
-      → lowest_free t i (to - i) ≡ lowest_free t (i + 1) (to - (i + 1))
-  lowest_next i to s here room used =
-      step i to true room (ap in_use (sym here) ∙ ap not (ne_eqb s.mechanism 0 used))
-
-  pub lowest_none : (i to : ℕ) → i ≤ to → to ≤ i → lowest_free t i (to - i) ≡ i
+  lowest_is : (from n i : ℕ) → from ≤ i → i < from + n → in_use (slot_at t i) ≡ false
+      → ((k : ℕ) → from ≤ k → k < i → in_use (slot_at t k) ≡ true) → lowest_free t from n ≡ i
   unfolding lowest_free
-  lowest_none i to h l = let none : to - i ≡ 0 = omega arith in rw none
+  lowest_is from zero i h l free before = omega arith
+  lowest_is from (suc n) i h l free before = grind (arith, tests, lowest_is (from + 1) n i)
 
-next_from : (from n : ℕ) → from + 1 + n ≡ from + suc n
-next_from from n = omega arith
-
-none_past : (from : ℕ) → from < from + 0 → ⊥
-none_past from h = omega arith
+  -- by what a search of the slots from `from` up to below `to` finds
+  pub lowest_by : (from to : ℕ) (r : Option ℕ) → from ≤ to
+      → MatchOption r ((k : ℕ) → from ≤ k → k < to → in_use (slot_at t k) ≡ true)
+      (λ i. (from ≤ i) × (i < to) × (in_use (slot_at t i) ≡ false) × ((k : ℕ) → from ≤ k → k < i → in_use (slot_at t k) ≡ true))
+      → unwrap_or r to ≡ lowest_free t from (to - from)
+  lowest_by from to None order h = sym (lowest_none from (to - from) (λ k l m. h k l (omega arith)) ∙ omega arith)
+  lowest_by from to (Some i) order h = sym (lowest_is from (to - from) i h.0 (omega (arith, h.1)) h.2 h.3)
 
 -- the lowest free slot is one of those looked through, or the number past them
 pub lowest_most : (t : Table) (from n : ℕ) → lowest_free t from n ≤ from + n
 unfolding lowest_free
-lowest_most t from zero = le-add_right from 0
-lowest_most t from (suc n) =
-    by_test (λ i. i ≤ from + suc n) (in_use (slot_at t from))
-    (λ used. subst (λ k. lowest_free t (from + 1) n ≤ k) (next_from from n) (lowest_most t (from + 1) n))
-    (λ free. le-add_right from (suc n))
+lowest_most t from zero = grind arith
+lowest_most t from (suc n) = grind (arith, tests, lowest_most t (from + 1) n)
 
 -- it is free
 pub lowest-free : (t : Table) (from n : ℕ) → lowest_free t from n < from + n → in_use (slot_at t (lowest_free t from n)) ≡ false
 unfolding lowest_free
-lowest-free t from zero h = absurd (none_past from h)
-lowest-free t from (suc n) h =
-    by_test (λ i. i < from + suc n → in_use (slot_at t i) ≡ false) (in_use (slot_at t from))
-    (λ used room. lowest-free t (from + 1) n (subst (λ k. lowest_free t (from + 1) n < k) (sym (next_from from n)) room))
-    (λ free room. free) h
+lowest-free t from zero h = grind arith
+lowest-free t from (suc n) h = grind (arith, tests, lowest-free t (from + 1) n)
 
 -- and those before it are in use
 pub lowest_before : (t : Table) (from n i : ℕ) → from ≤ i → i < lowest_free t from n → in_use (slot_at t i) ≡ true
 unfolding lowest_free
-lowest_before t from zero i h room = absurd (not_both h room)
-lowest_before t from (suc n) i h room =
-    by_test (λ k. i < k → in_use (slot_at t i) ≡ true) (in_use (slot_at t from))
-    (λ used before.
-    ⊎_elim (λ later. lowest_before t (from + 1) n i later before) (λ is. subst (λ k. in_use (slot_at t k) ≡ true) is used) (le-cases h))
-    (λ free before. absurd (not_both h before)) room
+lowest_before t from zero i h room = grind arith
+lowest_before t from (suc n) i h room = grind (arith, tests, lowest_before t (from + 1) n i)

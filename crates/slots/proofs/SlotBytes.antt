@@ -1,7 +1,7 @@
 -- A slot and its 134 bytes: nothing is lost either way. Assumes nothing.
 use Rattle.slots.specs.Sizes.{field_size, interval_at, counter_at, fresh_at, serial_at, first_at, second_at, slot_size}
 use Rattle.std.proofs.Common.{◌≡◌, ℕ, ◌+◌, ◌<◌, ◌≤◌, List, [], ◌∷◌, ◌++◌, length, get_or, take, drop, sym, refl, ap, ◌∙◌, ap₂, le_of_eq}
-use Rattle.std.proofs.Common.{add-zero, arith, lit<, lit≤, length-append, get_or-drop, take_all, drop-cons, get_or-take, take-take}
+use Rattle.std.proofs.Common.{arith, lit≤, length-append, get_or-drop, take_all, drop-cons, get_or-take, take-take}
 use Rattle.std.proofs.Common.{take_at, take-add, drop_at}
 use Rattle.standard.specs.Strings.{Bytes}
 use Rattle.standard.proofs.Strings.{bytes_take, bytes_drop}
@@ -37,7 +37,7 @@ module _ (p : List ℕ) (b : Bytes p) (sized : length p ≡ slot_size) where
 
 -- a front, and what stands behind it
 length_more : (a b : List ℕ) (m n : ℕ) → length a ≡ m → length b ≡ n → length (a ++ b) ≡ m + n
-length_more a b m n first second = length-append a b ∙ ap₂ ◌+◌ first second
+length_more a b m n first second = grind (arith, length-append)
 
 part-behind : (p a b : List ℕ) (at n : ℕ) → length a ≡ at → take at p ≡ a → take (at + n) p ≡ a ++ b → part at n p ≡ b
 part-behind p a b at n sized front whole =
@@ -46,12 +46,10 @@ part-behind p a b at n sized front whole =
     drop_at a b at sized
 
 front_of : (p a b : List ℕ) (at wider : ℕ) → at ≤ wider → take wider p ≡ a ++ b → length a ≡ at → take at p ≡ a
-front_of p a b at wider order front sized = sym (take-take at wider p order) ∙ ap (take at) front ∙ take_at a b at sized
+front_of p a b at wider order front sized = grind (arith, take-take at wider p order, take_at a b at sized)
 
 byte_of : (p : List ℕ) (at : ℕ) {b : ℕ} → part at 1 p ≡ b ∷ [] → get_or p at 0 ≡ b
-byte_of p at {b} is =
-    ap (λ i. get_or p i 0) (sym (add-zero at)) ∙ sym (get_or-drop at p 0 0) ∙ sym (get_or-take 1 (drop at p) 0 0 (lit< tt)) ∙ ap
-    (λ s. get_or s 0 0) is
+byte_of p at {b} is = grind (arith, get_or-drop at p 0 0, get_or-take 1 (drop at p) 0 0)
 
 -- from the slot to the bytes and back: each field stands where it is read
 module _ (s : Slot) (fits : Fits s) where
@@ -111,19 +109,18 @@ module _ (s : Slot) (fits : Fits s) where
   pub slot_from-bytes : slot_from (slot_bytes s) ≡ s
   unfolding slot_from
   slot_from-bytes =
-      rw (
+      grind (
+        arith,
         head_byte,
-        byte_of _ fresh_at stands.fresh,
+        byte_of (slot_bytes s) fresh_at stands.fresh,
         stands.strength,
         stands.interval,
         stands.counter,
         stands.serial,
         stands.first,
         stands.second,
-      )
-      (rw (
         from-little_endian 2 s.strength fits.strength,
         from-little_endian 8 s.interval fits.interval,
         from-little_endian 8 s.counter fits.counter,
         from-little_endian 4 s.serial fits.serial,
-      ))
+      )

@@ -1,7 +1,7 @@
 -- What a sound table's slots are, and that one sound slot more keeps a table sound. Assumes nothing.
 use Rattle.slots.specs.Sizes.{field_size}
-use Rattle.std.proofs.Common.{◌≡◌, ℕ, zero, suc, ◌+◌, ◌^◌, ◌<◌, ◌≤◌, true, not, ◌||◌, eqb, leb, ◌⊎◌, List, length, drop, sym, refl, ap}
-use Rattle.std.proofs.Common.{◌∙◌, subst, inl, inr, ⊎_elim, le_of_eq, arith, eq-eqb, eqb-true, le-leb, leb-true}
+use Rattle.std.proofs.Common.{◌≡◌, ℕ, zero, suc, ◌+◌, ◌^◌, ◌<◌, ◌≤◌, true, ◌||◌, eqb, leb, ◌⊎◌, List, length, drop, sym, refl, ap}
+use Rattle.std.proofs.Common.{◌∙◌, inl, inr, ⊎_elim, le_of_eq, arith, tests, eqb-true, leb-true}
 use mathlib.Core.Bool.{false≢true}
 use native.Mathlib.Decide.{dec_lt}
 use lib.ListN.{get_or-eq_default}
@@ -9,7 +9,7 @@ use Rattle.slots.specs.Layout.{free_slot, no_slot, slot_at, with_slot, last_seri
 use Rattle.slots.specs.Sound.{all_zero, between, used_field, free_sound, used_sound, sound_slot, sound_slots, sound}
 use Rattle.slots.specs.Handle.{in_use}
 use Rattle.slots.specs.declared.slot.Slot.{Slot}
-use Rattle.slots.proofs.Flags.{both, and_both, either, or-first, or-second}
+use Rattle.std.proofs.lemmas.Bool.{and_parts, and_from, or_cases, or_left, or_right}
 use Rattle.slots.proofs.Slots.{Has, slot_at-cases, last_serial-with_slot, slot_at-with_last_serial, last_serial-with_last_serial}
 
 -- a field of a used slot
@@ -33,36 +33,26 @@ pub record Used (last : ℕ) (s : Slot) : Type 0 where
 
 field_of : (mechanism : ℕ) (field : List ℕ) → used_field mechanism field ≡ true → Field mechanism field
 field_of mechanism field h =
-    let parts = both (eqb (length field) field_size) (eqb mechanism 2 || all_zero (drop 32 field)) h in
+    let parts = and_parts (eqb (length field) field_size) (eqb mechanism 2 || all_zero (drop 32 field)) h in
     record { bytes = eqb-true (length field) field_size parts.0; rest = parts.1 }
-
-of_field : (mechanism : ℕ) (field : List ℕ) → Field mechanism field → used_field mechanism field ≡ true
-of_field mechanism field f = and_both (eq-eqb (length field) field_size f.bytes) f.rest
 
 between_of : (least x most : ℕ) → between least x most ≡ true → (least ≤ x) × (x ≤ most)
 between_of least x most h =
-    let parts = both (leb least x) (leb x most) h in (leb-true least x parts.0, leb-true x most parts.1)
-
-of_between : (least x most : ℕ) → least ≤ x → x ≤ most → between least x most ≡ true
-of_between least x most h l = and_both (le-leb least x h) (le-leb x most l)
-
-of_either : (a b x : ℕ) → (x ≡ a) ⊎ (x ≡ b) → (eqb x a || eqb x b) ≡ true
-of_either a b x (inl e) = or-first (eqb x b) (eq-eqb x a e)
-of_either a b x (inr e) = or-second (eqb x a) (eq-eqb x b e)
+    let parts = and_parts (leb least x) (leb x most) h in (leb-true least x parts.0, leb-true x most parts.1)
 
 module _ (last : ℕ) (s : Slot) where
   pub used_of : used_sound last s ≡ true → Used last s
   unfolding used_sound
   used_of h =
-      let second = both _ _ h in
-      let first = both _ _ second.0 in
-      let serial = both _ _ first.0 in
-      let fresh = both _ _ serial.0 in
-      let counter = both _ _ fresh.0 in
-      let interval = both _ _ counter.0 in
-      let strength = both _ _ interval.0 in
+      let second = and_parts _ _ h in
+      let first = and_parts _ _ second.0 in
+      let serial = and_parts _ _ first.0 in
+      let fresh = and_parts _ _ serial.0 in
+      let counter = and_parts _ _ fresh.0 in
+      let interval = and_parts _ _ counter.0 in
+      let strength = and_parts _ _ interval.0 in
       record {
-        mechanism = ⊎_elim (λ e. inl (eqb-true s.mechanism 1 e)) (λ e. inr (eqb-true s.mechanism 2 e)) (either _ _ strength.0);
+        mechanism = ⊎_elim (λ e. inl (eqb-true s.mechanism 1 e)) (λ e. inr (eqb-true s.mechanism 2 e)) (or_cases _ _ strength.0);
         strength = strength.1;
         interval-some = (between_of 1 s.interval (2 ^ 48) interval.1).0;
         interval_most = (between_of 1 s.interval (2 ^ 48) interval.1).1;
@@ -77,65 +67,31 @@ module _ (last : ℕ) (s : Slot) where
 
   pub of_used : Used last s → used_sound last s ≡ true
   unfolding used_sound
-  of_used u =
-      and_both
-      (and_both
-      (and_both
-      (and_both
-      (and_both
-      (and_both
-      (and_both (of_either 1 2 s.mechanism u.mechanism)
-      u.strength)
-      (of_between 1 s.interval (2 ^ 48) u.interval-some u.interval_most))
-      (of_between 1 s.counter (s.interval + 1) u.counter-some u.counter_most))
-      (le-leb s.fresh 1 u.fresh))
-      (of_between 1 s.serial last u.serial-some u.serial_most))
-      (of_field s.mechanism s.first u.first))
-      (of_field s.mechanism s.second u.second)
+  of_used u = grind (arith, tests)
 
   free_mechanism : free_sound s ≡ true → s.mechanism ≡ 0
   unfolding free_sound
-  free_mechanism h =
-      let numbers = (both _ _ (both _ _ h).0).0 in
-      eqb-true s.mechanism 0 (both _ _ (both _ _ (both _ _ (both _ _ (both _ _ numbers).0).0).0).0).0
+  free_mechanism h = grind (arith, tests)
 
   -- a sound slot is free and all zero, or used
   pub sound-used : sound_slot last s ≡ true → in_use s ≡ true → Used last s
   unfolding sound_slot
   sound-used h used =
-      ⊎_elim (λ free. absurd (false≢true (ap (λ n. not (eqb n 0)) (sym (free_mechanism free)) ∙ used))) used_of (either _ _ h)
+      ⊎_elim (λ free. let none = free_mechanism free in grind (arith, tests)) used_of (or_cases (free_sound s) (used_sound last s) h)
 
   pub used_so : Used last s → sound_slot last s ≡ true
   unfolding sound_slot
-  used_so u = or-second (free_sound s) (of_used u)
-
-none_below : (i : ℕ) → i < 0 → ⊥
-none_below i h = omega arith
-
-lt-more : {i n : ℕ} → i < n → i < suc n
-lt-more h = omega arith
-
-below_itself : (n : ℕ) → n < suc n
-below_itself n = omega arith
-
-lt-or-is : {i n : ℕ} → i < suc n → (i < n) ⊎ (i ≡ n)
-lt-or-is {i} {n} h = go (dec_lt i n)
-  where
-    go : Dec (i < n) → (i < n) ⊎ (i ≡ n)
-    go (yes l) = inl l
-    go (no l) = inr (omega (arith, l))
+  used_so u = or_right (free_sound s) (used_sound last s) (of_used u)
 
 slots_at : (t : Table) (n : ℕ) → sound_slots t n ≡ true → (i : ℕ) → i < n → sound_slot (last_serial t) (slot_at t i) ≡ true
 unfolding sound_slots
-slots_at t zero h i room = absurd (none_below i room)
-slots_at t (suc n) h i room =
-    let parts = both (sound_slots t n) (sound_slot (last_serial t) (slot_at t n)) h in
-    ⊎_elim (slots_at t n parts.0 i) (λ e. subst (λ k. sound_slot (last_serial t) (slot_at t k) ≡ true) (sym e) parts.1) (lt-or-is room)
+slots_at t zero h i room = grind arith
+slots_at t (suc n) h i room = grind (arith, tests, slots_at t n)
 
 slots_all : (t : Table) (n : ℕ) → ((i : ℕ) → i < n → sound_slot (last_serial t) (slot_at t i) ≡ true) → sound_slots t n ≡ true
 unfolding sound_slots
 slots_all t zero h = refl
-slots_all t (suc n) h = and_both (slots_all t n (λ i room. h i (lt-more room))) (h n (below_itself n))
+slots_all t (suc n) h = and_from _ _ (slots_all t n (λ i room. h i (omega arith))) (h n (omega arith))
 
 pub sound-at : (t : Table) → sound t ≡ true → (i : ℕ) → i < 16 → sound_slot (last_serial t) (slot_at t i) ≡ true
 unfolding sound
@@ -167,56 +123,27 @@ sound_has t h i room = go (dec_lt i (length t.slots))
 -- a later last serial
 sound-later : (last next : ℕ) (s : Slot) → last ≤ next → sound_slot last s ≡ true → sound_slot next s ≡ true
 unfolding sound_slot
-sound-later last next s order h = go (either _ _ h)
-  where
-    later : Used last s → Used next s
-    later u =
-        record {
-          mechanism = u.mechanism;
-          strength = u.strength;
-          interval-some = u.interval-some;
-          interval_most = u.interval_most;
-          counter-some = u.counter-some;
-          counter_most = u.counter_most;
-          fresh = u.fresh;
-          serial-some = u.serial-some;
-          serial_most = omega (arith, u.serial_most);
-          first = u.first;
-          second = u.second;
-        }
-
-    go : (free_sound s ≡ true) ⊎ (used_sound last s ≡ true) → (free_sound s || used_sound next s) ≡ true
-    go (inl free) = or-first (used_sound next s) free
-    go (inr used) = or-second (free_sound s) (of_used next s (later (used_of last s used)))
+sound-later last next s order h =
+    ⊎_elim (or_left (free_sound s) (used_sound next s))
+    (λ used. let u = used_of last s used in or_right (free_sound s) (used_sound next s) (of_used next s (search arith)))
+    (or_cases (free_sound s) (used_sound last s) h)
 
 -- a table that differs from a sound one in sound slots, and in a later last serial, is sound
 pub sound_changed : (t u : Table) → sound t ≡ true → last_serial t ≤ last_serial u
     → ((i : ℕ) → i < 16 → (sound_slot (last_serial u) (slot_at u i) ≡ true) ⊎ (slot_at u i ≡ slot_at t i)) → sound u ≡ true
 sound_changed t u h order each =
     sound_all u
-    (λ i room.
-    ⊎_elim (λ s. s)
-    (λ same. subst (λ s. sound_slot (last_serial u) s ≡ true) (sym same)
-    (sound-later (last_serial t) (last_serial u) (slot_at t i) order (sound-at t h i room)))
-    (each i room))
+    (λ i room. grind (arith, each i room, sound-later (last_serial t) (last_serial u) (slot_at t i) order (sound-at t h i room)))
 
 pub sound-with_slot : (t : Table) (i : ℕ) (s : Slot) → sound t ≡ true → sound_slot (last_serial t) s ≡ true → sound (with_slot t i s) ≡ true
 sound-with_slot t i s h new =
     sound_changed t (with_slot t i s) h (le_of_eq (sym (last_serial-with_slot t i s)))
-    (λ j room. ⊎_elim (λ is. inl (new_at j is)) inr (slot_at-cases t i s j))
-  where
-    new_at : (j : ℕ) → slot_at (with_slot t i s) j ≡ s → sound_slot (last_serial (with_slot t i s)) (slot_at (with_slot t i s) j) ≡ true
-    new_at j is = rw (last_serial-with_slot, is) new
+    (λ j room. grind (arith, slot_at-cases t i s j, last_serial-with_slot t i s, new))
 
 -- the same with the last serial set
 pub sound-opened : (t : Table) (i serial : ℕ) (s : Slot) → sound t ≡ true → last_serial t ≤ serial → sound_slot serial s ≡ true
     → sound (with_last_serial (with_slot t i s) serial) ≡ true
 sound-opened t i serial s h order new =
-    sound_changed t (with_last_serial (with_slot t i s) serial) h (rw last_serial-with_last_serial order)
-    (λ j room. ⊎_elim (λ is. inl (new_at j is)) (λ is. inr (slot_at-with_last_serial (with_slot t i s) serial j ∙
-    is)) (slot_at-cases t i s j))
-  where
-    new_at : (j : ℕ) → slot_at (with_slot t i s) j ≡ s
-        → sound_slot (last_serial (with_last_serial (with_slot t i s) serial)) (slot_at (with_last_serial
-        (with_slot t i s) serial) j) ≡ true
-    new_at j is = rw (last_serial-with_last_serial, slot_at-with_last_serial, is) new
+    let u = with_slot t i s in
+    sound_changed t (with_last_serial u serial) h (rw last_serial-with_last_serial order)
+    (λ j room. grind (arith, slot_at-cases t i s j, slot_at-with_last_serial u serial j, last_serial-with_last_serial u serial, new))

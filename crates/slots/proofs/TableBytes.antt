@@ -2,11 +2,12 @@
 use Rattle.slots.specs.Sizes.{field_size, strength_at, interval_at, counter_at, serial_at, first_at, second_at, slot_size, last_at}
 use Rattle.slots.specs.Sizes.{table_size}
 use Rattle.std.proofs.Common.{◌≡◌, ℕ, zero, suc, ◌+◌, ◌-◌, ◌*◌, ◌/◌, ◌%◌, ◌^◌, ◌<◌, ◌≤◌, List, [], ◌∷◌, ◌++◌, length, get_or, take, drop}
-use Rattle.std.proofs.Common.{set, replicate, sym, refl, ap, ◌∙◌, subst, ap₂, append_assoc, append-nil, suc-le-suc, le_of_eq}
+use Rattle.std.proofs.Common.{set, replicate, sym, refl, ap, ◌∙◌, subst, ap₂, append_assoc, suc-le-suc, le_of_eq}
 use Rattle.std.proofs.Common.{le_of_suc-le-suc, not-suc-le-zero, zero-lt-suc, arith, lit≤, length-append, length-drop, take-append-drop}
-use Rattle.std.proofs.Common.{drop_of_length-le, length-take-le, get_or-drop, take_all, get_or-take, drop-drop, take_at, take-add}
+use Rattle.std.proofs.Common.{length-take-le, get_or-drop, take_all, get_or-take, drop-drop, take_at, take-add}
 use Rattle.std.proofs.Common.{drop_at}
 use lib.Seq.{paste}
+use Rattle.std.proofs.lemmas.Grind.{common_steps}
 use Rattle.standard.specs.Strings.{number_of, Bytes}
 use Rattle.standard.proofs.Strings.{bytes_take, bytes_drop}
 use Rattle.slots.specs.Layout.{no_slot, slot_at, with_slot, last_serial, with_last_serial, fresh_table, Table}
@@ -16,8 +17,8 @@ use Rattle.slots.specs.Slots.{slot_bytes, slot_from}
 use Rattle.slots.specs.Machine.{Fits, Machine}
 use Rattle.slots.specs.Bytes.{slots_bytes, table_bytes, slots_from, table_of}
 use Rattle.slots.proofs.LittleEndian.{length-little_endian, from_below, from-little_endian, little_endian_from}
-use Rattle.slots.proofs.LittleEndian.{length_part}
-use Rattle.copies.proofs.Pasted.{paste-whole}
+use Rattle.std.specs.Int.{w32, to_le_bytes}
+use Rattle.slots.proofs.LittleEndian.{length_part, Front, front_number, front_all}
 use Rattle.slots.proofs.SlotBytes.{bytes-slot_from, length-slot_bytes, slot_from-bytes}
 
 next : (n : ℕ) → slot_size + slot_size * n ≡ slot_size * suc n
@@ -55,9 +56,7 @@ pub slots_put : (n i : ℕ) (s : List ℕ) (x : Slot) → i < n → Bytes s → 
 unfolding slots_bytes slots_from
 slots_put zero i s x below b room = absurd (not-suc-le-zero below)
 slots_put (suc n) zero s x below b room =
-    append_assoc (slot_bytes x) (slots_bytes (slots_from n (drop slot_size s))) (drop (slot_size * suc n) s) ∙
-    ap (λ v. slot_bytes x ++ (slots_bytes (slots_from n (drop slot_size s)) ++ v)) (sym (drop-next n s)) ∙
-    ap (λ u. slot_bytes x ++ u) (slots-bytes n (drop slot_size s) (bytes_drop slot_size b) (less n s room))
+    grind (arith, common_steps, drop-next n s, slots-bytes n (drop slot_size s) (bytes_drop slot_size b) (less n s room))
 slots_put (suc n) (suc i) s x below b room =
     let put = slots_bytes (set (slots_from n (drop slot_size s)) i x) in
     append_assoc (slot_bytes (slot_from (take slot_size s))) put (drop (slot_size * suc n) s) ∙
@@ -102,9 +101,7 @@ module _ (s : List ℕ) (b : Bytes s) (sized : length s ≡ table_size) where
 
     pub table_put : {p : List ℕ} → p ≡ slot_bytes x
         → take place s ++ (p ++ drop (place + slot_size - place) (drop place s)) ≡ table_bytes (with_slot (table_of s) i x)
-    table_put is =
-        let whole : place + slot_size - place ≡ slot_size = omega arith in
-        ap₂ (λ u v. take place s ++ (u ++ v)) is (ap (λ n. drop n (drop place s)) whole ∙ drop-drop slot_size place s) ∙ sym put_is
+    table_put is = grind (arith, common_steps, put_is, drop-drop slot_size place s, is)
 
     -- it changes no byte outside its place
     front_sized : length (take place s) ≡ place
@@ -129,19 +126,16 @@ slot_read s i below =
     ap (λ n. slot_from (take n (drop (slot_size * i) s))) whole ∙ sym (slots_at 16 i s below)
 
 -- the last serial put in
-pub last_put : (u : Table) (serial : ℕ) {e f : List ℕ} → e ≡ table_bytes u → length e ≡ table_size
-    → f ≡ paste e last_at (little_endian 4 serial) 4 → f ≡ table_bytes (with_last_serial u serial)
+pub last_put : (u : Table) (serial : ℕ) {e f b : List ℕ} → e ≡ table_bytes u → length e ≡ table_size → b ≡ to_le_bytes w32 serial
+    → f ≡ paste e last_at b (length b) → f ≡ table_bytes (with_last_serial u serial)
 unfolding table_bytes with_last_serial
-last_put u serial {e} {f} is sized put =
+last_put u serial {e} {f} is sized written put =
     let parts : length (slots_bytes u.slots) + length (little_endian 4 u.last) ≡ table_size =
     sym (length-append (slots_bytes u.slots) (little_endian 4 u.last)) ∙ ap length (sym is) ∙ sized in
     let front : length (slots_bytes u.slots) ≡ last_at = omega (arith, parts, length-little_endian 4 u.last) in
-    put ∙
-    paste-whole e (little_endian 4 serial) last_at 4 (length-little_endian 4 serial) ∙
-    ap₂ (λ a c. a ++ little_endian 4 serial ++ c)
-    (ap (take last_at) is ∙ take_at (slots_bytes u.slots) (little_endian 4 u.last) last_at front)
-    (drop_of_length-le e (le_of_eq sized)) ∙
-    append-nil (slots_bytes u.slots ++ little_endian 4 serial)
+    let front-is : Front table_size last_at (slots_bytes u.slots) e =
+    record { is = ap (take last_at) is ∙ take_at (slots_bytes u.slots) (little_endian 4 u.last) last_at front; whole = sized } in
+    front_all (front_number w32 serial front-is (omega arith) written put)
 
 -- the bytes of the first slot, and those behind it
 module _ (s : Slot) (fits : Fits s) (more rest : List ℕ) where
@@ -173,17 +167,16 @@ slots-part [] rest fit i room = absurd (not-suc-le-zero room)
 slots-part (s ∷ slots) rest fit zero room = own-bytes s (fit 0 (zero-lt-suc (length slots))) (slots_bytes slots) rest
 slots-part (s ∷ slots) rest fit (suc i) room =
     let behind = bytes-behind s (fit 0 (zero-lt-suc (length slots))) (slots_bytes slots) rest in
-    ap (take slot_size) (sym (drop-next i ((slot_bytes s ++ slots_bytes slots) ++ rest)) ∙ ap (drop (slot_size * i)) behind) ∙
-    slots-part slots rest (λ j below. fit (suc j) (suc-le-suc below)) i (le_of_suc-le-suc room)
+    let later = slots-part slots rest (λ j below. fit (suc j) (suc-le-suc below)) i (le_of_suc-le-suc room) in
+    grind (arith, behind, later, drop-next i ((slot_bytes s ++ slots_bytes slots) ++ rest))
 
 length-slots : (slots : List Slot) → ((i : ℕ) → i < length slots → Fits (get_or slots i no_slot))
     → length (slots_bytes slots) ≡ slot_size * length slots
 unfolding slots_bytes
 length-slots [] fit = refl
 length-slots (s ∷ slots) fit =
-    length-append (slot_bytes s) (slots_bytes slots) ∙
-    ap₂ ◌+◌ (length-slot_bytes s (fit 0 (zero-lt-suc (length slots)))) (length-slots slots (λ i below. fit (suc i) (suc-le-suc below))) ∙
-    next (length slots)
+    let own = length-slot_bytes s (fit 0 (zero-lt-suc (length slots))) in
+    grind (arith, length-append, own, length-slots slots (λ i below. fit (suc i) (suc-le-suc below)))
 
 module _ (t : Table) (m : Machine t) where
   fit : (i : ℕ) → i < length t.slots → Fits (get_or t.slots i no_slot)
@@ -191,11 +184,11 @@ module _ (t : Table) (m : Machine t) where
   fit i below = m.fit i (subst (λ n. i < n) m.sixteen below)
 
   front : length (slots_bytes t.slots) ≡ last_at
-  front = length-slots t.slots fit ∙ ap (λ n. slot_size * n) m.sixteen
+  front = grind (arith, length-slots t.slots fit, m.sixteen)
 
   pub length-table_bytes : length (table_bytes t) ≡ table_size
   unfolding table_bytes
-  length-table_bytes = length-append (slots_bytes t.slots) (little_endian 4 t.last) ∙ ap₂ ◌+◌ front (length-little_endian 4 t.last)
+  length-table_bytes = grind (arith, length-append, front, length-little_endian 4 t.last)
 
   slot-part : (i : ℕ) → i < 16 → part (slot_size * i) slot_size (table_bytes t) ≡ slot_bytes (slot_at t i)
   unfolding table_bytes slot_at
@@ -242,16 +235,11 @@ module _ (t u : Table) (mt : Machine t) (mu : Machine u) (at : ℕ) where
       → get_or (table_bytes u) at 0 ≡ get_or (table_bytes t) at 0
   same-slot before same =
       let i : ℕ = at / slot_size in
-      sym (in_slot (table_bytes u) at) ∙
-      ap (λ p. get_or p (at % slot_size) 0)
-      (slot-part u mu i (omega arith) ∙ ap slot_bytes same ∙ sym (slot-part t mt i (omega arith))) ∙
-      in_slot (table_bytes t) at
+      grind (arith, same, in_slot (table_bytes u) at, in_slot (table_bytes t) at, slot-part u mu i, slot-part t mt i)
 
   pub same-last : last_at ≤ at → last_serial u ≡ last_serial t → get_or (table_bytes u) at 0 ≡ get_or (table_bytes t) at 0
   same-last past same =
-      sym (in_last (table_bytes u) at past) ∙
-      ap (λ p. get_or p (at - last_at) 0) (last-part u mu ∙ ap (little_endian 4) same ∙ sym (last-part t mt)) ∙
-      in_last (table_bytes t) at past
+      grind (arith, same, in_last (table_bytes u) at past, in_last (table_bytes t) at past, last-part u mu, last-part t mt)
 
 -- all bytes zero are the fresh table
 pub fresh-bytes : table_of (replicate table_size 0) ≡ fresh_table

@@ -7,4 +7,5 @@ use Rattle.slots.proofs.layout.put_new_slot.Goals as goal
 
 pub returns : goal.returns
 returns c =
-    last_put (with_slot (table_of c.args.table.now) c.args.i c.args.s) c.args.serial c.put_slot.ensures (omega arith) c.put_u32.ensures
+    last_put (with_slot (table_of c.args.table.now) c.args.i c.args.s) c.args.serial c.put_slot.ensures (omega arith)
+    c.to_le_bytes.ensures c.copy.ensures

@@ -1,7 +1,0 @@
--- From its low half and its high one.
-use Rattle.std.proofs.Common.{arith}
-use Rattle.slots.proofs.LittleEndian.{number_join}
-use Rattle.slots.proofs.numbers.u32_at.Goals as goal
-
-pub returns : goal.returns
-returns c = number_join c.args.at 2 2 _ _ c.args.s.now (omega arith) c.u16_at.ensures c.u16_at-2.ensures
