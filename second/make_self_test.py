@@ -35,6 +35,7 @@ CASES = [
 
 CODE = """\
 // Made by second/make_self_test.py: NIST's cases, their strings as they stand in the named files.
+use crate::cases::{Fresh, Reseeded};
 """
 DEFINITIONS = """\
 -- Made by second/make_self_test.py: NIST's cases, their strings as they stand in the named files.
@@ -67,22 +68,16 @@ def rows(text):
     return [text[at:at + ROW] for at in range(0, len(text), ROW)]
 
 
-def const_name(*names):
-    """Of words that begin with a capital letter."""
-    name = "_".join(names)
-    return "".join(f"_{letter}" if letter.isupper() else letter for letter in name).upper()
-
-
 def literal(text):
     lines = ["".join(f"\\x{byte:02x}" for byte in row) for row in rows(text)]
-    return "*b\"\\\n    " + "\\\n    ".join(lines) + "\""
+    return "b\"\\\n        " + "\\\n        ".join(lines) + "\""
 
 
-def code(name, path, case, found):
-    consts = [
-        f"pub const {const_name(name, ours)}: [u8; {len(text)}] = {literal(text)};\n"
-        for ours, text in found.items()]
-    return f"\n// vectors/{path}, line {case.line}.\n" + "\n".join(consts)
+def code(name, kind, path, case, found):
+    fields = "".join(f"    {ours}: {literal(text)},\n" for ours, text in found.items())
+    return (
+        f"\n// vectors/{path}, line {case.line}.\n"
+        f"pub static {name.upper()}: {kind}<'static> = {kind} {{\n{fields}}};\n")
 
 
 def number(text):
@@ -103,7 +98,7 @@ def made():
     for name, kind, fields, path in CASES:
         case = chosen(path)
         found = strings(case, fields)
-        source += code(name, path, case, found)
+        source += code(name, kind, path, case, found)
         definitions += definition(name, kind, path, case, found)
     return {"src/published.rt": source.encode(), "specs/Published.antt": definitions.encode()}
 

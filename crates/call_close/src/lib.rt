@@ -4,23 +4,26 @@
 
 ghost use Rattle.std.specs.Prelude.{◌≡◌, []};
 ghost use Rattle.table.specs.Calls.{closes};
-ghost use Rattle.table.specs.OnBytes.{leaving, in_bytes};
+ghost use Rattle.table.specs.OnBytes.{leaving, told_of, in_bytes};
 
-use slots::handle::Found;
+use reasons::Reason;
 use slots::{handle, layout, slot, sound};
-use table::answers;
-use table::answers::Told;
+use table::answers::Served;
 
-pub fn close(table: &mut [u8], handle: u64) -> Told
-    ensures { leaving result table.new []
+#[tactic(auto, using(table::proofs::OnBytes::at_exits))]
+pub fn close(table: &mut [u8], handle: u64) -> Result<Served, Reason>
+    ensures { leaving (told_of result) table.new []
         ≡ in_bytes (closes handle) table.old }
 {
     if !sound::is_sound(table) {
-        return answers::refused(1);
+        return Err(Reason::UnsoundTable);
     }
-    let Found::At(i) = handle::look_up(table, handle) else {
-        return answers::refused(2);
+    let Some(i) = handle::look_up(table, handle) else {
+        return Err(Reason::NoSuchGenerator);
     };
     layout::put_slot(table, i, slot::free_slot());
-    answers::accepted(0, 0)
+    Ok(Served {
+        blocks: 0,
+        value: 0,
+    })
 }

@@ -4,39 +4,47 @@
 
 ghost use Rattle.std.specs.Prelude.{◌≡◌};
 ghost use Rattle.table.specs.Calls.{draws};
-ghost use Rattle.table.specs.OnBytes.{leaving, in_bytes};
+ghost use Rattle.table.specs.OnBytes.{leaving, told_of, in_bytes};
 
 use drbg::generator;
-use slots::handle::Found;
+use reasons::Reason;
+use slots::slot::Slot;
 use slots::{handle, layout, sound};
 use table::answers;
-use table::answers::Told;
+use table::answers::Served;
 
-pub fn draw(table: &mut [u8], handle: u64, strength: u64, additional: &[u8], out: &mut [u8]) -> Told
-    ensures { leaving result table.new out.new
+#[tactic(auto, using(table::proofs::OnBytes::at_exits, reasons::proofs::Allowed::draw_found))]
+pub fn draw(
+    table: &mut [u8],
+    handle: u64,
+    strength: u64,
+    additional: &[u8],
+    out: &mut [u8],
+) -> Result<Served, Reason>
+    ensures { leaving (told_of result) table.new out.new
         ≡ in_bytes (draws handle strength out.old additional.now) table.old }
 {
     if !sound::is_sound(table) {
-        return answers::refused(1);
+        return Err(Reason::UnsoundTable);
     }
-    let Found::At(i) = handle::look_up(table, handle) else {
-        return answers::refused(2);
+    let Some(i) = handle::look_up(table, handle) else {
+        return Err(Reason::NoSuchGenerator);
     };
     let s = layout::slot_at(table, i);
-    let n = reasons::draw_reason(
+    reasons::draw_reason(
         s.strength,
         s.interval,
         s.counter,
         strength,
         out.len(),
         additional.len(),
-    );
-    if n != 0 {
-        return answers::refused(n);
-    }
-    let mut first = s.first;
-    let mut second = s.second;
-    let counter = s.counter;
+    )?;
+    let Slot {
+        mut first,
+        mut second,
+        counter,
+        ..
+    } = s;
     let counted = counter + 1;
     let blocks = generator::drawn(
         s.mechanism,
@@ -46,5 +54,11 @@ pub fn draw(table: &mut [u8], handle: u64, strength: u64, additional: &[u8], out
         additional,
         out,
     );
-    answers::stepped(table, i, s, first, second, counted, blocks)
+    let next = Slot {
+        counter: counted,
+        first,
+        second,
+        ..s
+    };
+    Ok(answers::stepped(table, i, next, blocks))
 }

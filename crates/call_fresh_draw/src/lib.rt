@@ -4,14 +4,16 @@
 
 ghost use Rattle.std.specs.Prelude.{◌≡◌};
 ghost use Rattle.table.specs.Calls.{fresh_draws};
-ghost use Rattle.table.specs.OnBytes.{leaving, in_bytes};
+ghost use Rattle.table.specs.OnBytes.{leaving, told_of, in_bytes};
 
 use drbg::generator;
-use slots::handle::Found;
+use reasons::Reason;
+use slots::slot::Slot;
 use slots::{handle, layout, sound};
 use table::answers;
-use table::answers::Told;
+use table::answers::Served;
 
+#[tactic(auto, using(table::proofs::OnBytes::at_exits, reasons::proofs::Allowed::fresh_draw_found))]
 #[inline(always)]
 pub fn fresh_draw<'a>(
     table: &mut [u8],
@@ -20,30 +22,30 @@ pub fn fresh_draw<'a>(
     entropy: &'a [u8],
     additional: &'a [u8],
     out: &mut [u8],
-) -> Told
-    ensures { leaving result table.new out.new
+) -> Result<Served, Reason>
+    ensures { leaving (told_of result) table.new out.new
         ≡ in_bytes (fresh_draws handle strength out.old entropy.now additional.now) table.old }
 {
     if !sound::is_sound(table) {
-        return answers::refused(1);
+        return Err(Reason::UnsoundTable);
     }
-    let Found::At(i) = handle::look_up(table, handle) else {
-        return answers::refused(2);
+    let Some(i) = handle::look_up(table, handle) else {
+        return Err(Reason::NoSuchGenerator);
     };
     let s = layout::slot_at(table, i);
-    let n = reasons::fresh_draw_reason(
+    reasons::fresh_draw_reason(
         s.strength,
         s.fresh,
         strength,
         out.len(),
         entropy.len(),
         additional.len(),
-    );
-    if n != 0 {
-        return answers::refused(n);
-    }
-    let mut first = s.first;
-    let mut second = s.second;
+    )?;
+    let Slot {
+        mut first,
+        mut second,
+        ..
+    } = s;
     let blocks = generator::fresh_drawn(
         s.mechanism,
         &mut first,
@@ -52,5 +54,11 @@ pub fn fresh_draw<'a>(
         additional,
         out,
     );
-    answers::stepped(table, i, s, first, second, 2, blocks)
+    let next = Slot {
+        counter: 2,
+        first,
+        second,
+        ..s
+    };
+    Ok(answers::stepped(table, i, next, blocks))
 }

@@ -4,23 +4,26 @@
 
 ghost use Rattle.std.specs.Prelude.{◌≡◌, []};
 ghost use Rattle.table.specs.Calls.{inquires};
-ghost use Rattle.table.specs.OnBytes.{leaving, in_bytes};
+ghost use Rattle.table.specs.OnBytes.{leaving, told_of, in_bytes};
 
-use slots::handle::Found;
+use reasons::Reason;
 use slots::{handle, layout, sound};
-use table::answers;
-use table::answers::Told;
+use table::answers::Served;
 
-pub fn inquire(table: &[u8], handle: u64) -> Told
-    ensures { leaving result table.now []
+#[tactic(auto, using(table::proofs::OnBytes::at_exits))]
+pub fn inquire(table: &[u8], handle: u64) -> Result<Served, Reason>
+    ensures { leaving (told_of result) table.now []
         ≡ in_bytes (inquires handle) table.now }
 {
     if !sound::is_sound(table) {
-        return answers::refused(1);
+        return Err(Reason::UnsoundTable);
     }
-    let Found::At(i) = handle::look_up(table, handle) else {
-        return answers::refused(2);
+    let Some(i) = handle::look_up(table, handle) else {
+        return Err(Reason::NoSuchGenerator);
     };
     let s = layout::slot_at(table, i);
-    answers::accepted(0, s.interval + 1 - s.counter)
+    Ok(Served {
+        blocks: 0,
+        value: s.interval + 1 - s.counter,
+    })
 }

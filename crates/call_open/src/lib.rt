@@ -4,14 +4,16 @@
 
 ghost use Rattle.std.specs.Prelude.{◌≡◌, []};
 ghost use Rattle.table.specs.Calls.{opens};
-ghost use Rattle.table.specs.OnBytes.{leaving, in_bytes};
+ghost use Rattle.table.specs.OnBytes.{leaving, told_of, in_bytes};
 
 use drbg::generator;
+use reasons::Reason;
 use slots::handle::handle_of;
 use slots::{handle, layout, sound};
-use table::answers;
-use table::answers::{Told, new_slot};
+use table::answers::{Served, new_slot};
 
+#[tactic(auto, using(table::proofs::OnBytes::at_exits))]
+// Any number may be asked for as the mechanism: 3 answers those that name none.
 pub fn open<'a>(
     table: &mut [u8],
     mechanism: u64,
@@ -21,29 +23,27 @@ pub fn open<'a>(
     entropy: &'a [u8],
     nonce: &'a [u8],
     personalization: &'a [u8],
-) -> Told
-    ensures { leaving result table.new []
+) -> Result<Served, Reason>
+    ensures { leaving (told_of result) table.new []
         ≡ in_bytes (opens mechanism strength interval fresh entropy.now nonce.now personalization.now)
         table.old }
 {
     if !sound::is_sound(table) {
-        return answers::refused(1);
+        return Err(Reason::UnsoundTable);
     }
-    let i = handle::lowest_free(table, 0, 16);
+    let slot = handle::lowest_free(table, 0, 16);
     let last = layout::last_serial(table);
-    let n = reasons::open_reason(
+    reasons::open_reason(
         mechanism,
         strength,
         interval,
         entropy.len(),
         nonce.len(),
         personalization.len(),
-        i,
+        slot,
         last,
-    );
-    if n != 0 {
-        return answers::refused(n);
-    }
+    )?;
+    let i = slot.unwrap();
     let kind = mechanism as u8;
     let serial = last + 1;
     let mut first = [0u8; 55];
@@ -66,5 +66,8 @@ pub fn open<'a>(
         second,
     );
     layout::put_new_slot(table, i, serial, s);
-    answers::accepted(blocks, handle_of(serial, i))
+    Ok(Served {
+        blocks,
+        value: handle_of(serial, i),
+    })
 }

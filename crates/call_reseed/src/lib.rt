@@ -4,31 +4,44 @@
 
 ghost use Rattle.std.specs.Prelude.{◌≡◌, []};
 ghost use Rattle.table.specs.Calls.{reseeds};
-ghost use Rattle.table.specs.OnBytes.{leaving, in_bytes};
+ghost use Rattle.table.specs.OnBytes.{leaving, told_of, in_bytes};
 
 use drbg::generator;
-use slots::handle::Found;
+use reasons::Reason;
+use slots::slot::Slot;
 use slots::{handle, layout, sound};
 use table::answers;
-use table::answers::Told;
+use table::answers::Served;
 
-pub fn reseed<'a>(table: &mut [u8], handle: u64, entropy: &'a [u8], additional: &'a [u8]) -> Told
-    ensures { leaving result table.new []
+#[tactic(auto, using(table::proofs::OnBytes::at_exits, reasons::proofs::Allowed::reseed_found))]
+pub fn reseed<'a>(
+    table: &mut [u8],
+    handle: u64,
+    entropy: &'a [u8],
+    additional: &'a [u8],
+) -> Result<Served, Reason>
+    ensures { leaving (told_of result) table.new []
         ≡ in_bytes (reseeds handle entropy.now additional.now) table.old }
 {
     if !sound::is_sound(table) {
-        return answers::refused(1);
+        return Err(Reason::UnsoundTable);
     }
-    let Found::At(i) = handle::look_up(table, handle) else {
-        return answers::refused(2);
+    let Some(i) = handle::look_up(table, handle) else {
+        return Err(Reason::NoSuchGenerator);
     };
     let s = layout::slot_at(table, i);
-    let n = reasons::reseed_reason(s.strength, entropy.len(), additional.len());
-    if n != 0 {
-        return answers::refused(n);
-    }
-    let mut first = s.first;
-    let mut second = s.second;
+    reasons::reseed_reason(s.strength, entropy.len(), additional.len())?;
+    let Slot {
+        mut first,
+        mut second,
+        ..
+    } = s;
     let blocks = generator::reseeded(s.mechanism, &mut first, &mut second, entropy, additional);
-    answers::stepped(table, i, s, first, second, 1, blocks)
+    let next = Slot {
+        counter: 1,
+        first,
+        second,
+        ..s
+    };
+    Ok(answers::stepped(table, i, next, blocks))
 }

@@ -3,8 +3,10 @@
 -- the output of a draw the fourth; inquire only reads its table. Assumes nothing.
 use mathlib.Core.Path.{◌≡◌, sym, ap, ◌∙◌}
 use mathlib.Core.List.{[]}
-use Rattle.table.specs.OnBytes.{Done, leaving, Same}
-use Rattle.table.specs.declared.answers.Told.{Told}
+use Rattle.std.specs.Prelude.{Result}
+use Rattle.reasons.specs.declared.Reason.{Reason}
+use Rattle.table.specs.OnBytes.{Done, leaving, told_of, Same}
+use Rattle.table.specs.declared.answers.Served.{Served}
 use Rattle.call_open.proofs.open.Reads as open-call
 use Rattle.call_reseed.proofs.reseed.Reads as reseed
 use Rattle.call_draw.proofs.draw.Reads as draw
@@ -22,26 +24,26 @@ same_of h =
       output = ap (λ x. x.output) h;
     }
 
-pub open_determined : (κs : _) (a : _) (r q : Told) (s u : _) → open-call.Post κs a r s → open-call.Post κs a q u
-    → Same (leaving r s.0.now []) (leaving q u.0.now [])
+pub open_determined : (κs : _) (a : _) (r q : Result Served Reason) (s u : _) → open-call.Post κs a r s → open-call.Post κs a q u
+    → Same (leaving (told_of r) s.0.now []) (leaving (told_of q) u.0.now [])
 open_determined κs a r q s u h l = same_of (h ∙ sym l)
 
-pub reseed_determined : (κs : _) (a : _) (r q : Told) (s u : _) → reseed.Post κs a r s → reseed.Post κs a q u
-    → Same (leaving r s.0.now []) (leaving q u.0.now [])
+pub reseed_determined : (κs : _) (a : _) (r q : Result Served Reason) (s u : _) → reseed.Post κs a r s → reseed.Post κs a q u
+    → Same (leaving (told_of r) s.0.now []) (leaving (told_of q) u.0.now [])
 reseed_determined κs a r q s u h l = same_of (h ∙ sym l)
 
-pub draw_determined : (κs : _) (a : _) (r q : Told) (s u : _) → draw.Post κs a r s → draw.Post κs a q u
-    → Same (leaving r s.0.now s.1.1.1.1.0.now) (leaving q u.0.now u.1.1.1.1.0.now)
+pub draw_determined : (κs : _) (a : _) (r q : Result Served Reason) (s u : _) → draw.Post κs a r s → draw.Post κs a q u
+    → Same (leaving (told_of r) s.0.now s.1.1.1.1.0.now) (leaving (told_of q) u.0.now u.1.1.1.1.0.now)
 draw_determined κs a r q s u h l = same_of (h ∙ sym l)
 
-pub fresh_draw_determined : (κs : _) (a : _) (r q : Told) (s u : _) → fresh-draw.Post κs a r s → fresh-draw.Post κs a q u
-    → Same (leaving r s.0.now s.1.1.1.1.1.0.now) (leaving q u.0.now u.1.1.1.1.1.0.now)
+pub fresh_draw_determined : (κs : _) (a : _) (r q : Result Served Reason) (s u : _) → fresh-draw.Post κs a r s → fresh-draw.Post κs a q u
+    → Same (leaving (told_of r) s.0.now s.1.1.1.1.1.0.now) (leaving (told_of q) u.0.now u.1.1.1.1.1.0.now)
 fresh_draw_determined κs a r q s u h l = same_of (h ∙ sym l)
 
-pub close_determined : (κs : _) (a : _) (r q : Told) (s u : _) → close.Post κs a r s → close.Post κs a q u
-    → Same (leaving r s.0.now []) (leaving q u.0.now [])
+pub close_determined : (κs : _) (a : _) (r q : Result Served Reason) (s u : _) → close.Post κs a r s → close.Post κs a q u
+    → Same (leaving (told_of r) s.0.now []) (leaving (told_of q) u.0.now [])
 close_determined κs a r q s u h l = same_of (h ∙ sym l)
 
-pub inquire_determined : (κs : _) (a : _) (r q : Told) (s u : _) → inquire.Post κs a r s → inquire.Post κs a q u
-    → Same (leaving r a.0.now []) (leaving q a.0.now [])
+pub inquire_determined : (κs : _) (a : _) (r q : Result Served Reason) (s u : _) → inquire.Post κs a r s → inquire.Post κs a q u
+    → Same (leaving (told_of r) a.0.now []) (leaving (told_of q) a.0.now [])
 inquire_determined κs a r q s u h l = same_of (h ∙ sym l)

@@ -1,4 +1,5 @@
 // Document 01: the six calls on a table. Any table, any handle, any lengths and bytes: no call asks anything of its caller.
+// What four of them begin with is written out in each: SCOPE wants the look-up taken apart there.
 
 #![tactic(auto)]
 

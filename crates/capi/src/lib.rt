@@ -1,23 +1,33 @@
 // The library that C and Rust link: the six calls on a table in the caller's 2,148 bytes, and a test of them. include/purangsa.h says what
-// each promises.
+// each promises. Names, arguments and numbers are C's, so an export is written out for each call.
 
 #![tactic(auto)]
 
 ghost use Rattle.std.specs.Prelude.{◌≡◌, [], not, eqb};
 ghost use Rattle.table.specs.Calls.{opens, reseeds, draws, fresh_draws, closes, inquires};
-ghost use Rattle.table.specs.OnBytes.{in_bytes};
+ghost use Rattle.table.specs.OnBytes.{told_of, in_bytes};
 ghost use Rattle.capi.specs.Left.{leaves};
 ghost use Rattle.self_test.specs.SelfTest.{first_differing};
 
-use table::answers::Told;
+use reasons::Reason;
+use table::answers::Served;
 
 // What a call tells goes out by the result and the two pointers.
-fn tell(told: Told, blocks: &mut u64, value: &mut u64) -> u64
-    ensures { record { number = result; blocks = blocks.new; value = value.new } ≡ told }
+fn tell(outcome: Result<Served, Reason>, blocks: &mut u64, value: &mut u64) -> u64
+    ensures { record { number = result; blocks = blocks.new; value = value.new } ≡ told_of outcome }
 {
-    *blocks = told.blocks;
-    *value = told.value;
-    told.number
+    match outcome {
+        Ok(served) => {
+            *blocks = served.blocks;
+            *value = served.value;
+            0
+        }
+        Err(reason) => {
+            *blocks = 0;
+            *value = 0;
+            reason.into()
+        }
+    }
 }
 
 // `fresh` is C's truth: 0 is no, any other number is yes.

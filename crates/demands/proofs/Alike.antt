@@ -29,8 +29,8 @@ use Rattle.table.specs.Answers.{Reply, stepped, installed, with_generator, new_s
 use Rattle.table.specs.Served.{mechanism_in, state_in}
 use Rattle.reasons.proofs.Decisions.{refusing, serving}
 use Rattle.reasons.proofs.Allowed.{may_open, may_reseed, may_draw, may_draw-fresh}
+use Rattle.table.specs.OnBytes.{Told}
 use Rattle.table.specs.Calls.{Call, reasons_of, refusal, service}
-use Rattle.table.specs.declared.answers.Told.{Told}
 use Rattle.table.proofs.Exits.{first-refuses, none-refuses}
 use Rattle.demands.specs.Calls.{answer, after}
 use Rattle.demands.specs.Alike.{Alike, openings, reseedings, drawings, fresh_drawings, closings, inquiries, AllAlike, none, more}

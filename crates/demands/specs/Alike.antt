@@ -4,8 +4,7 @@ use Rattle.slots.specs.Layout.{Table, slot_at, last_serial}
 use Rattle.slots.specs.declared.slot.Slot.{Slot}
 use Rattle.table.specs.Answers.{Answer, Reply}
 use Rattle.table.specs.Calls.{Call, opens, reseeds, draws, fresh_draws, closes, inquires}
-use Rattle.table.specs.OnBytes.{Done}
-use Rattle.table.specs.declared.answers.Told.{Told}
+use Rattle.table.specs.OnBytes.{Told, Done}
 use Rattle.demands.specs.Calls.{run}
 use Rattle.demands.specs.InBytes.{in_bytes_all}
 

@@ -5,7 +5,8 @@ use mathlib.Core.Logic.{◌⊎◌, inl, inr}
 use Prim.Native.Nat.{ℕ, ◌/◌, ◌^◌, ◌≤◌}
 use borrow.Author.Tests.{ltb-false, eqb-true, eqb-false, not-false}
 use lib.Dec.{eqb, ltb}
-use Rattle.reasons.specs.Reasons.{NoneHolds}
+use Rattle.reasons.specs.Reasons.{NoneHolds, first_of}
+use Rattle.reasons.proofs.FirstReason.{none-holds}
 use Rattle.reasons.specs.Checks.{outside, rounded, open_reasons, reseed_reasons, draw_reasons, fresh_draw_reasons, close_reasons}
 
 one-or_two : (m : ℕ) → (not (eqb m 1) && not (eqb m 2)) ≡ false → (m ≡ 1) ⊎ (m ≡ 2)
@@ -131,3 +132,28 @@ pub record MayClose (sound named : Bool) : Type 0 where
 pub may_close : {sound named : Bool} → NoneHolds (close_reasons sound named) → MayClose sound named
 unfolding close_reasons
 may_close h = record { sound_so = not-false _ h.0; named_so = not-false _ h.1.0 }
+
+-- and of one for which the code finds none
+pub open_found : {sound : Bool} {mechanism strength interval entropy nonce personalization slot last : ℕ}
+    → 0 ≡ first_of (open_reasons sound mechanism strength interval entropy nonce personalization slot last)
+    → MayOpen sound mechanism strength interval entropy nonce personalization slot last
+unfolding open_reasons
+open_found none = may_open (none-holds _ refl (sym none))
+
+pub reseed_found : {sound named : Bool} {own entropy additional : ℕ}
+    → 0 ≡ first_of (reseed_reasons sound named own entropy additional)
+    → MayReseed sound named own entropy additional
+unfolding reseed_reasons
+reseed_found none = may_reseed (none-holds _ refl (sym none))
+
+pub draw_found : {sound named : Bool} {own interval counter strength request additional : ℕ}
+    → 0 ≡ first_of (draw_reasons sound named own interval counter strength request additional)
+    → MayDraw sound named own interval counter strength request additional
+unfolding draw_reasons
+draw_found none = may_draw (none-holds _ refl (sym none))
+
+pub fresh_draw_found : {sound named : Bool} {own fresh strength request entropy additional : ℕ}
+    → 0 ≡ first_of (fresh_draw_reasons sound named own fresh strength request entropy additional)
+    → MayDrawFresh sound named own fresh strength request entropy additional
+unfolding fresh_draw_reasons
+fresh_draw_found none = may_draw-fresh (none-holds _ refl (sym none))

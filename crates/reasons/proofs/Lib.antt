@@ -4,3 +4,5 @@ pub mod Decisions
 pub mod Ahead
 pub mod Allowed
 pub mod Strengths
+pub mod Slots
+pub mod Numbers

@@ -1,5 +1,5 @@
 -- Document 01, 'What the station hears back': reasons as numbers with their tests, of which the first that holds is the answer.
-use Rattle.std.specs.Prelude.{ℕ, ◌≡◌, Bool, true, false, ◌&&◌, cond, eqb}
+use Rattle.std.specs.Prelude.{ℕ, ◌≡◌, Bool, true, false, cond, eqb}
 
 infixr 10 ◌when◌else◌
 pub data Reasons : Type 0 where
@@ -24,7 +24,3 @@ NoneHolds (number when holds else rest) = (holds ≡ false) × NoneHolds rest
 -- refused by the first reason that holds, or served where none does
 unfoldable pub decided : {A : Type 0} → Reasons → (refusal : ℕ → A) (service : A) → A
 decided reasons refusal service = cond (eqb (first_of reasons) 0) service (refusal (first_of reasons))
-
--- the reason so far, or else this one where it holds: how the code takes them in turn
-abbrev pub or_else : (reason : ℕ) (holds : Bool) (number : ℕ) → ℕ
-or_else reason holds number = cond (eqb reason 0 && holds) number reason

@@ -1,12 +1,18 @@
 // Open: 1, 3, 4, 5, 6, 8, 9, 13, 14; here from 3 on, once the table is sound.
-ghost use Rattle.std.specs.Prelude.{◌≡◌, true};
+ghost use Rattle.std.specs.Prelude.{◌≡◌, ◌≢◌, true, unwrap_or};
+ghost use Rattle.reasons.specs.Numbers.{refused_by};
 ghost use Rattle.reasons.specs.Reasons.{first_of};
 ghost use Rattle.reasons.specs.Checks.{open_reasons};
 
-use crate::{or_else, rounded};
+use crate::Reason::{
+    EntropyOutOfRange, IntervalOutOfRange, NoFreeSlot, NonceOutOfRange, PersonalizationTooLong,
+    SerialsUsedUp, StrengthTooHigh, UnknownMechanism,
+};
+use crate::{Reason, outside, refuse_if, rounded};
 
-// `slot` is the lowest free one, 16 where there is none, and `last` the last serial.
-#[tactic(auto, unfolding(crate::specs::Checks::open_reasons, crate::specs::Reasons::first_of))]
+// Any number may be asked for as the mechanism.
+// `slot` is the lowest free one, if there is any (none has the number 16), and `last` the last serial.
+#[tactic(auto, using(crate::proofs::Slots::none_free), unfolding(crate::specs::Checks::open_reasons, crate::specs::Reasons::first_of))]
 pub fn open_reason(
     mechanism: u64,
     strength: u64,
@@ -14,20 +20,19 @@ pub fn open_reason(
     entropy: usize,
     nonce: usize,
     personalization: usize,
-    slot: usize,
+    slot: Option<usize>,
     last: u32,
-) -> u64
-    ensures { result ≡ first_of (open_reasons true mechanism strength interval entropy nonce personalization slot last) }
+) -> Result<(), Reason>
+    ensures { slot ≢ Some 16 → refused_by result
+        ≡ first_of (open_reasons true mechanism strength interval entropy nonce personalization (unwrap_or slot 16) last) }
 {
-    let own = rounded(strength);
-    let least_entropy = (own / 8) as usize;
-    let least_nonce = (own / 16) as usize;
-    let n = or_else(0, (mechanism != 1) & (mechanism != 2), 3);
-    let n = or_else(n, 256 < strength, 4);
-    let n = or_else(n, (interval < 1) | (281474976710656 < interval), 5);
-    let n = or_else(n, 512 < personalization, 6);
-    let n = or_else(n, (entropy < least_entropy) | (1024 < entropy), 8);
-    let n = or_else(n, (nonce < least_nonce) | (64 < nonce), 9);
-    let n = or_else(n, slot == 16, 13);
-    or_else(n, last == 4294967295, 14)
+    let own = u64::from(rounded(strength));
+    refuse_if((mechanism != 1) & (mechanism != 2), UnknownMechanism)?;
+    refuse_if(256 < strength, StrengthTooHigh)?;
+    refuse_if(outside(1, interval, 1 << 48), IntervalOutOfRange)?;
+    refuse_if(512 < personalization, PersonalizationTooLong)?;
+    refuse_if(outside(own / 8, entropy as u64, 1024), EntropyOutOfRange)?;
+    refuse_if(outside(own / 16, nonce as u64, 64), NonceOutOfRange)?;
+    refuse_if(slot.is_none(), NoFreeSlot)?;
+    refuse_if(last == u32::MAX, SerialsUsedUp)
 }

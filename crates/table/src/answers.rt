@@ -1,75 +1,33 @@
-// What a call on bytes hands back beside the bytes.
+// What a served call hands back beside the bytes.
 ghost use Rattle.slots.specs.Sizes.{table_size};
 ghost use Rattle.std.specs.Prelude.{◌≡◌, [], ◌<◌, length};
 ghost use Rattle.drbg_shared.specs.Generator.{holding, led_on};
 ghost use Rattle.slots.specs.Layout.{slot_at};
-ghost use Rattle.table.specs.Answers.{with_generator, stepped, new_slot};
+ghost use Rattle.table.specs.Answers.{generator_of, with_generator, stepped, new_slot};
 ghost use Rattle.slots.specs.Bytes.{table_of};
-ghost use Rattle.table.specs.OnBytes.{leaving, told_refused, told_served, done};
+ghost use Rattle.table.specs.OnBytes.{leaving, told_served, done};
 
 use slots::layout;
 use slots::slot::Slot;
 
-#[derive(Clone, Copy)]
-pub struct Told {
-    pub number: u64,
+#[derive(Clone, Copy, Debug, PartialEq, Eq)]
+pub struct Served {
     pub blocks: u64,
     pub value: u64,
 }
 
-pub fn refused(number: u64) -> Told
-    ensures { result ≡ told_refused number }
+// The generator in slot i has made its step: the slot with its fields and its counter, and the blocks that were consumed.
+#[tactic(auto, unfolding(crate::specs::Answers::stepped))]
+pub fn stepped(table: &mut [u8], i: usize, s: Slot, blocks: u64) -> Served
+    requires { (length table.old ≡ table_size) × (i < 16) × (s ≡ with_generator (slot_at (table_of table.old) i) (generator_of s)) }
+    ensures { leaving (told_served result.blocks result.value) table.new []
+        ≡ done (record { answer = stepped (table_of table.old) i (led_on s.first s.second s.counter blocks); output = [] }) }
 {
-    Told {
-        number,
-        blocks: 0,
-        value: 0,
-    }
+    layout::put_slot(table, i, s);
+    Served { blocks, value: 0 }
 }
 
-pub fn accepted(blocks: u64, value: u64) -> Told
-    ensures { result ≡ told_served blocks value }
-{
-    Told {
-        number: 0,
-        blocks,
-        value,
-    }
-}
-
-pub fn with_generator(s: Slot, first: [u8; 55], second: [u8; 55], counter: u64) -> Slot
-    ensures { result ≡ with_generator s (holding first second counter) }
-{
-    Slot {
-        mechanism: s.mechanism,
-        strength: s.strength,
-        interval: s.interval,
-        counter,
-        fresh: s.fresh,
-        serial: s.serial,
-        first,
-        second,
-    }
-}
-
-// The generator in slot i, which is s, has made its step: its fields, its counter, and the blocks that were consumed.
-pub fn stepped(
-    table: &mut [u8],
-    i: usize,
-    s: Slot,
-    first: [u8; 55],
-    second: [u8; 55],
-    counter: u64,
-    blocks: u64,
-) -> Told
-    requires { (length table.old ≡ table_size) × (i < 16) × (s ≡ slot_at (table_of table.old) i) }
-    ensures { leaving result table.new []
-        ≡ done (record { answer = stepped (table_of table.old) i (led_on first second counter blocks); output = [] }) }
-{
-    layout::put_slot(table, i, with_generator(s, first, second, counter));
-    accepted(blocks, 0)
-}
-
+// The mechanism's number, as it goes into the slot.
 pub fn new_slot(
     mechanism: u8,
     strength: u16,
@@ -86,7 +44,7 @@ pub fn new_slot(
         strength,
         interval,
         counter: 1,
-        fresh: fresh as u8,
+        fresh: u8::from(fresh),
         serial,
         first,
         second,

@@ -13,10 +13,14 @@ use std::io;
 use test_output::{print_bytes, print_number, print_text};
 
 fn print_answer(rt: &impl Print, name: &[u8], a: Answer) -> io::Result<()> {
+    let (number, blocks, value) = match a.outcome {
+        Ok(served) => (0, served.blocks, served.value),
+        Err(reason) => (reason.into(), 0, 0),
+    };
     print_text(rt, name)?;
-    print_number(rt, a.number)?;
-    print_number(rt, a.blocks)?;
-    print_number(rt, a.value)
+    print_number(rt, number)?;
+    print_number(rt, blocks)?;
+    print_number(rt, value)
 }
 
 fn print_open(rt: &impl Print, name: &[u8], a: Answer) -> io::Result<()> {
@@ -27,9 +31,7 @@ fn print_open(rt: &impl Print, name: &[u8], a: Answer) -> io::Result<()> {
 fn print_draw(rt: &impl Print, name: &[u8], a: Answer, out: &[u8]) -> io::Result<()> {
     print_answer(rt, name, a)?;
     print_text(rt, b" ")?;
-    let d = running::hash_of(out);
-    let bytes = d.bytes;
-    print_bytes(rt, bytes)?;
+    print_bytes(rt, running::hash_of(out).bytes)?;
     print_text(rt, b"\n")
 }
 
@@ -40,58 +42,51 @@ fn fresh_table() -> Held {
 }
 
 // A table with another slot i.
-fn with_slot(t: Held, i: usize, s: Slot) -> Held
+fn with_slot(mut t: Held, i: usize, s: Slot) -> Held
     requires { i < 16 }
 {
-    let mut bytes = t.bytes;
-    layout::put_slot(&mut bytes, i, s);
-    Held { bytes }
+    layout::put_slot(&mut t.bytes, i, s);
+    t
 }
 
-fn with_last_serial(t: Held, last: u32) -> Held {
-    let mut bytes = t.bytes;
-    layout::put_last_serial(&mut bytes, last);
-    Held { bytes }
-}
-
-fn slot_at(t: Held, i: usize) -> Slot
-    requires { i < 16 }
-{
-    let bytes = t.bytes;
-    layout::slot_at(&bytes, i)
+fn with_last_serial(mut t: Held, last: u32) -> Held {
+    layout::put_last_serial(&mut t.bytes, last);
+    t
 }
 
 fn open_with(t: Held, mechanism: u64, strength: u64, entropy: usize) -> Answer
     requires { entropy ≤ 32 }
 {
-    let lent = [170u8; 32];
-    let nonce = [85u8; 16];
-    let all = &lent[..];
-    let some = &all[..entropy];
-    let none = &all[..0];
-    doors::open(t, mechanism, strength, 2, true, some, &nonce, none)
+    doors::open(
+        t,
+        mechanism,
+        strength,
+        2,
+        true,
+        &[170; 32][..entropy],
+        &[85; 16],
+        &[],
+    )
 }
 
 // Requests of 65,536 and 65,537, on each mechanism.
 fn requests(rt: &impl Print, mechanism: u64) -> io::Result<()> {
     let t = open_with(fresh_table(), mechanism, 128, 16).table;
     let mut most = [7u8; 65536];
-    let none = [0u8; 1];
-    let a = doors::draw(t, 16, 128, &none[..0], &mut most);
+    let a = doors::draw(t, 16, 128, &[], &mut most);
     print_draw(rt, b"65536", a, &most)?;
     let mut more = [7u8; 65537];
-    let b = doors::draw(t, 16, 128, &none[..0], &mut more);
+    let b = doors::draw(t, 16, 128, &[], &mut more);
     print_draw(rt, b"65537", b, &more)
 }
 
-// A 17th opening.
+// A 17th opening. By number: it picks the mechanism, which the calls take as a number.
 fn openings(rt: &impl Print) -> io::Result<()> {
     let mut t = fresh_table();
     for i in 0..17u64 {
         let a = open_with(t, 1 + i % 2, 0, 14);
         print_open(rt, b"opening", a)?;
-        let next = a.table;
-        t = next;
+        t = a.table;
     }
     Ok(())
 }
@@ -103,59 +98,54 @@ fn serials(rt: &impl Print, last: u32) -> io::Result<()> {
 }
 
 // One clause of soundness broken: of a used slot up to 11, of a free one from 12 on; past 18 none is.
-fn spoiled(k: usize, s: Slot) -> Slot {
-    let mut r = s;
+// By number: each is one line of the output, in this order.
+fn spoiled(k: usize, mut s: Slot) -> Slot {
     match k {
-        0 => r.mechanism = 3,
-        1 => r.strength = 111,
-        2 => r.interval = 0,
-        3 => r.interval = 281474976710657,
-        4 => r.counter = 0,
-        5 => r.counter = 4,
-        6 => r.fresh = 2,
-        7 => r.serial = 0,
-        8 => r.serial = 2,
-        9 => r.first[32] = 1,
-        10 => r.second[54] = 1,
-        11 => r.mechanism = 0,
-        12 => r.strength = 112,
-        13 => r.interval = 1,
-        14 => r.counter = 1,
-        15 => r.fresh = 1,
-        16 => r.serial = 1,
-        17 => r.first[0] = 1,
-        18 => r.second[54] = 1,
-        _ => r.counter = s.counter,
+        0 => s.mechanism = 3,
+        1 => s.strength = 111,
+        2 => s.interval = 0,
+        3 => s.interval = 281474976710657,
+        4 => s.counter = 0,
+        5 => s.counter = 4,
+        6 => s.fresh = 2,
+        7 => s.serial = 0,
+        8 => s.serial = 2,
+        9 => s.first[32] = 1,
+        10 => s.second[54] = 1,
+        11 => s.mechanism = 0,
+        12 => s.strength = 112,
+        13 => s.interval = 1,
+        14 => s.counter = 1,
+        15 => s.fresh = 1,
+        16 => s.serial = 1,
+        17 => s.first[0] = 1,
+        18 => s.second[54] = 1,
+        _ => {}
     }
-    r
+    s
 }
 
 // The six calls on one table, and the lent output after both draws.
 fn six_calls(rt: &impl Print, t: Held) -> io::Result<()> {
     let lent = [51u8; 16];
-    let all = &lent[..];
-    let none = &all[..0];
     let mut out = [7u8; 16];
     print_open(rt, b"open", open_with(t, 1, 128, 16))?;
-    print_open(rt, b"reseed", doors::reseed(t, 16, all, none))?;
-    let a = doors::draw(t, 16, 0, none, &mut out);
+    print_open(rt, b"reseed", doors::reseed(t, 16, &lent, &[]))?;
+    let a = doors::draw(t, 16, 0, &[], &mut out);
     print_draw(rt, b"draw", a, &out)?;
-    let b = doors::fresh_draw(t, 16, 0, all, none, &mut out);
+    let b = doors::fresh_draw(t, 16, 0, &lent, &[], &mut out);
     print_draw(rt, b"fresh-draw", b, &out)?;
     print_open(rt, b"close", doors::close(t, 16))?;
     print_open(rt, b"inquire", doors::inquire(t, 16))
 }
 
-fn place(k: usize) -> usize
-    ensures { result < 16 }
-{
-    if k < 12 { 0 } else { 1 }
-}
-
 fn unsound(rt: &impl Print, k: usize) -> io::Result<()> {
     let t = open_with(fresh_table(), 1, 128, 16).table;
-    let i = place(k);
-    six_calls(rt, with_slot(t, i, spoiled(k, slot_at(t, i))))
+    let i = if k < 12 { 0 } else { 1 };
+    six_calls(
+        rt,
+        with_slot(t, i, spoiled(k, layout::slot_at(&t.bytes, i))),
+    )
 }
 
 fn main(rt: HostRuntime) -> io::Result<()> {

@@ -1,19 +1,36 @@
--- A case that differs is the first, and past the last case none is left.
-use Rattle.std.proofs.Common.{not, ap, ◌∙◌, arith}
-use Rattle.self_test.specs.SelfTest.{cases, hash_refused, first_differing}
-use Rattle.self_test.proofs.Holding.{case-holds, case_differs, none_left}
+-- The code's strings are the definition's: computed. What is answered is the number of the first case that does not hold.
+use Rattle.std.proofs.Common.{◌≡◌, Bool, ℕ, Option, List, [], ◌∷◌, map, not, sym, ap, ◌∙◌, rules, tests}
+use Rattle.std.proofs.lemmas.Iterator.{YieldsList-from_slice}
+use Rattle.std.proofs.lemmas.Iterator.Search.{position_from_yields_List}
+use Rattle.standard.specs.Strings.{bytes_of}
+use Rattle.self_test.specs.Cases.{Case, holds}
+use Rattle.self_test.specs.Published.{hmac_reseeded, hash_reseeded, hmac_fresh, hash_fresh}
+use Rattle.self_test.specs.SelfTest.{cases, first_differing}
+use Rattle.self_test.proofs.Holding.{place, number_at, number_is}
 use Rattle.self_test.proofs.self_test.Goals as goal
 
-pub returns-then-not-case_holds : goal.returns-then-not-case_holds
-unfolding first_differing
-returns-then-not-case_holds c =
-    case_differs cases c.loop-n.n hash_refused (omega arith) c.case_holds.ensures (ap not c.if-not-case_holds.true) (omega arith) ∙
-    c.loop-n.invariant
+five : {a b c d e : Bool} (v w x y z : Case) → a ≡ holds v → b ≡ holds w → c ≡ holds x → d ≡ holds y → e ≡ holds z
+    → a ∷ b ∷ c ∷ d ∷ e ∷ [] ≡ map holds (v ∷ w ∷ x ∷ y ∷ z ∷ [])
+five v w x y z h i j k l = cc
 
-pub loop-n-preserved : goal.loop-n-preserved
-loop-n-preserved c =
-    case-holds cases c.loop-n.n hash_refused (omega arith) c.case_holds.ensures (ap not c.if-not-case_holds.false) ∙ c.loop-n.invariant
-
-pub returns : goal.returns
+answered : {held : List Bool} (r : Option ℕ) → r ≡ place held → held ≡ map holds cases → number_at 1 r ≡ first_differing
 unfolding first_differing
-returns c = none_left cases c.loop-n.n (omega arith) ∙ c.loop-n.invariant
+answered r found held = ap (number_at 1) (found ∙ ap place held) ∙ number_is 1 cases
+
+pub returns-in-Some : goal.returns-in-Some
+unfolding bytes_of hmac_reseeded hash_reseeded hmac_fresh hash_fresh
+returns-in-Some c =
+    answered _
+    (sym c.in-Some.is ∙
+    position_from_yields_List not _ _ c.position.result c.position.ensures.ran (YieldsList-from_slice _ c.iter.ensures.rest)
+    (λ x b q k. search (rules, tests)))
+    (five _ _ _ _ _ c.holds.ensures c.holds-2.ensures c.holds-3.ensures c.holds-4.ensures c.refused.ensures)
+
+pub returns-in-None : goal.returns-in-None
+unfolding bytes_of hmac_reseeded hash_reseeded hmac_fresh hash_fresh
+returns-in-None c =
+    answered _
+    (sym c.in-None.is ∙
+    position_from_yields_List not _ _ c.position.result c.position.ensures.ran (YieldsList-from_slice _ c.iter.ensures.rest)
+    (λ x b q k. search (rules, tests)))
+    (five _ _ _ _ _ c.holds.ensures c.holds-2.ensures c.holds-3.ensures c.holds-4.ensures c.refused.ensures)

@@ -1,8 +1,0 @@
--- The code's strings are the definition's: computed.
-use Rattle.standard.specs.Strings.{bytes_of}
-use Rattle.self_test.specs.Published.{hmac_reseeded}
-use Rattle.self_test.proofs.hmac_reseeded.Goals as goal
-
-pub returns : goal.returns
-unfolding bytes_of hmac_reseeded
-returns c = c.reseeded.ensures
