@@ -5,15 +5,13 @@ use mathlib.Core.List.{List, [], ◌∷◌, ◌++◌}
 use lib.ListN.{replicate}
 use Rattle.book.specs.Reading.{found, bad}
 use Rattle.book.specs.Numbers.{groups, lenient_at, needless, number_at, group_bytes, number_bytes}
-use Rattle.book.specs.Strings.{string_at, string_bytes}
+use Rattle.book.specs.Strings.{Part, string_at, string_bytes}
 use Rattle.book.specs.Records.{open_at, reseed_at, draw_at, fresh_draw_at, close_at, inquire_at, fields_at, record_at}
-use Rattle.book.specs.Records.{opens, draws, closes, inquires}
+use Rattle.book.specs.Records.{Open, Draw, Close, Inquire, opens, draws, closes, inquires}
 use Rattle.book.specs.Books.{more, end, contents_from, contents_at, contents_of, book_bytes}
 use Rattle.text.specs.Ascii.{ascii}
 use Rattle.text.specs.Digits.{digit, digits, decimal, hex}
 use Rattle.book.specs.Lines.{value_text, line_end, line, bad_line}
-use Rattle.book.specs.declared.string.Part.{Part}
-use Rattle.book.specs.declared.record.Record.TheVariants.{Open, Draw, Close, Inquire}
 
 abbrev example : List ℕ
 example =

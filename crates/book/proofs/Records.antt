@@ -10,13 +10,13 @@ use lib.Dec.{eqb, lit<}
 use lib.ListN.{length, length-append}
 use Rattle.book.specs.Reading.{Read, Reader, found, on_found, refused, Stands}
 use Rattle.book.specs.Numbers.{number_at, number_up_to, number_bytes}
-use Rattle.book.specs.Strings.{string_at, bytes_of, In, string_bytes}
+use Rattle.book.specs.Strings.{Part, string_at, bytes_of, In, string_bytes}
 use Rattle.book.specs.Records.{open_at, reseed_at, draw_at, fresh_draw_at, close_at, inquire_at, fields_at, record_at}
 use Rattle.book.specs.Records.{Meaning, opens, reseeds, draws, fresh_draws, closes, inquires, meaning_of}
 use Rattle.book.specs.Records.{kind_of, field_bytes, joined, record_bytes, Word, Short, Fits, PartsIn, ReadAs}
-use Rattle.book.specs.declared.string.Part.{Part}
-use Rattle.book.specs.declared.record.Record.{Record}
-use Rattle.book.specs.declared.record.Record.TheVariants.{Open, Reseed, Draw, FreshDraw, Close, Inquire}
+use Rattle.book.specs.Records.{Record, Open, Reseed, Draw, FreshDraw, Close, Inquire}
+use Rattle.book.specs.Reading.{read_map}
+use Rattle.book.proofs.Reading.{map-found}
 use Rattle.book.proofs.Reading.{All, all_found, all_bad, all_then, Back, back_none, back_then}
 use Rattle.book.proofs.Numbers.{number-written, number_only, up_to_read, up_to_number, length-number}
 use Rattle.book.proofs.Strings.{string_inside, string_written, string_only}
@@ -294,6 +294,19 @@ module _ (book : List ℕ) (bytes : Bytes book) where
       let some : 0 < length (record_bytes m) =
       omega (arith, length-append (number_bytes (kind_of m)) (joined (field_bytes m)), length-number (kind_of m)) in
       (omega (arith, stands.ends), stands-inside book stands some)
+
+-- a record of that meaning was read from a to b
+pub record Said (book : List ℕ) (m : Meaning) (a b : ℕ) : Type 0 where
+  pub fits : Fits m
+  pub further : a < b
+  pub inside : b ≤ length book
+
+pub said : (book : List ℕ) → Bytes book → {m : Meaning} {a b : ℕ} → found m b ≡ read_map (meaning_of book) (record_at book a)
+    → Said book m a b
+said book bytes {m} {a} {b} e =
+    let read = map-found (meaning_of book) (record_at book a) e in
+    let within = record_within book bytes read.1 in
+    record { fits = subst Fits read.2 (record_only book bytes read.1).fits; further = within.0; inside = within.1 }
 
 -- between any two other texts
 pub record_between : (before after : List ℕ) (m : Meaning) → Fits m

@@ -3,9 +3,16 @@
 use Rattle.std.specs.Prelude.{ℕ, ◌^◌, ◌<◌, ◌≤◌, cond, List, [], ◌∷◌, ◌++◌, length, eqb}
 use Rattle.book.specs.Reading.{Reader, ◌>>=◌, return, refused, Stands}
 use Rattle.book.specs.Numbers.{number_at, number_up_to, number_bytes}
-use Rattle.book.specs.Strings.{string_at, bytes_of, In, string_bytes}
-use Rattle.book.specs.declared.record.Record.{Record}
-use Rattle.book.specs.declared.record.Record.TheVariants.{Open, Reseed, Draw, FreshDraw, Close, Inquire}
+use Rattle.book.specs.Strings.{Part, string_at, bytes_of, In, string_bytes}
+
+-- what is read: its strings are parts of the book
+pub data Record : Type 0 where
+  Open : (mechanism strength interval fresh : ℕ) (entropy nonce personalization : Part) → Record
+  Reseed : (handle : ℕ) (entropy additional : Part) → Record
+  Draw : (handle strength request : ℕ) (additional : Part) → Record
+  FreshDraw : (handle strength request : ℕ) (entropy additional : Part) → Record
+  Close : (handle : ℕ) → Record
+  Inquire : (handle : ℕ) → Record
 
 -- 1, open
 unfoldable pub open_at : Reader Record

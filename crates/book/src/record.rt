@@ -1,42 +1,41 @@
 // Records of the call book, read at a place: the kind first, then the kind's fields in order.
 ghost use Rattle.std.specs.Prelude.{◌≡◌};
-ghost use Rattle.book.specs.Records.{open_at, reseed_at, draw_at, fresh_draw_at, close_at, inquire_at, record_at};
-ghost use Rattle.book.specs.Cursors.{on_cursor};
-ghost use Rattle.book.specs.Values.{record_of};
-ghost use Rattle.book.specs.Reading.{found};
+ghost use Rattle.book.specs.Reading.{read_map};
+ghost use Rattle.book.specs.Records.{open_at, reseed_at, draw_at, fresh_draw_at, close_at, inquire_at, fields_at, record_at};
+ghost use Rattle.book.specs.Records.{meaning_of, kind_of};
+ghost use Rattle.book.specs.Values.{record_of, record_to, says, meaning};
 
-use crate::cursor;
 use crate::cursor::Cursor;
-use crate::string::Part;
 
 #[derive(Clone, Copy)]
-pub enum Record {
+pub enum Record<'a> {
     Open {
+        // Any number is a record: the opening answers 3 where no mechanism has it.
         mechanism: u64,
         strength: u64,
         interval: u64,
-        fresh: u64,
-        entropy: Part,
-        nonce: Part,
-        personalization: Part,
+        fresh: bool,
+        entropy: &'a [u8],
+        nonce: &'a [u8],
+        personalization: &'a [u8],
     },
     Reseed {
         handle: u64,
-        entropy: Part,
-        additional: Part,
+        entropy: &'a [u8],
+        additional: &'a [u8],
     },
     Draw {
         handle: u64,
         strength: u64,
         request: u64,
-        additional: Part,
+        additional: &'a [u8],
     },
     FreshDraw {
         handle: u64,
         strength: u64,
         request: u64,
-        entropy: Part,
-        additional: Part,
+        entropy: &'a [u8],
+        additional: &'a [u8],
     },
     Close {
         handle: u64,
@@ -46,134 +45,114 @@ pub enum Record {
     },
 }
 
-// A record with the next place, or none that can be read.
-#[derive(Clone, Copy)]
-pub enum RecordAt {
-    Found(Record, usize),
-    Bad,
-}
-
-// The record, if none of its fields was bad.
-fn ended(r: Record, c: Cursor) -> RecordAt
-    ensures { record_of result ≡ on_cursor c (found r) }
-{
-    if c.bad {
-        return RecordAt::Bad;
+impl Record<'_> {
+    // The number that the book and its line have for the kind.
+    pub fn kind(&self) -> u64
+        ensures { result ≡ kind_of (meaning self.now) }
+    {
+        match self {
+            Record::Open { .. } => 1,
+            Record::Reseed { .. } => 2,
+            Record::Draw { .. } => 3,
+            Record::FreshDraw { .. } => 4,
+            Record::Close { .. } => 5,
+            Record::Inquire { .. } => 6,
+        }
     }
-    RecordAt::Found(r, c.at)
 }
 
-fn open_fields(s: &[u8], from: Cursor) -> RecordAt
-    ensures { record_of result ≡ on_cursor from (open_at s.now) }
+// A function for each kind, which names its own fields: one function over a table of fields would hide them.
+#[tactic(auto, unfolding(crate::specs::Records::open_at))]
+fn open_fields<'a>(fields: &mut Cursor<'a>) -> Option<Record<'a>>
+    ensures { record_to result fields.new.at ≡ says open_at fields.old }
 {
-    let mechanism = cursor::number(s, from);
-    let strength = cursor::number(s, mechanism.next);
-    let interval = cursor::number(s, strength.next);
-    let fresh = cursor::number_up_to(s, interval.next, 1);
-    let entropy = cursor::string(s, fresh.next);
-    let nonce = cursor::string(s, entropy.next);
-    let personalization = cursor::string(s, nonce.next);
-    let entropy_part = entropy.part;
-    let nonce_part = nonce.part;
-    let personalization_part = personalization.part;
-    let r = Record::Open {
-        mechanism: mechanism.value,
-        strength: strength.value,
-        interval: interval.value,
-        fresh: fresh.value,
-        entropy: entropy_part,
-        nonce: nonce_part,
-        personalization: personalization_part,
-    };
-    ended(r, personalization.next)
+    Some(Record::Open {
+        mechanism: fields.number()?,
+        strength: fields.number()?,
+        interval: fields.number()?,
+        fresh: fields.number_up_to(1)? == 1,
+        entropy: fields.string()?,
+        nonce: fields.string()?,
+        personalization: fields.string()?,
+    })
 }
 
-fn reseed_fields(s: &[u8], from: Cursor) -> RecordAt
-    ensures { record_of result ≡ on_cursor from (reseed_at s.now) }
+#[tactic(auto, unfolding(crate::specs::Records::reseed_at))]
+fn reseed_fields<'a>(fields: &mut Cursor<'a>) -> Option<Record<'a>>
+    ensures { record_to result fields.new.at ≡ says reseed_at fields.old }
 {
-    let handle = cursor::number(s, from);
-    let entropy = cursor::string(s, handle.next);
-    let additional = cursor::string(s, entropy.next);
-    let entropy_part = entropy.part;
-    let additional_part = additional.part;
-    let r = Record::Reseed {
-        handle: handle.value,
-        entropy: entropy_part,
-        additional: additional_part,
-    };
-    ended(r, additional.next)
+    Some(Record::Reseed {
+        handle: fields.number()?,
+        entropy: fields.string()?,
+        additional: fields.string()?,
+    })
 }
 
-fn draw_fields(s: &[u8], from: Cursor) -> RecordAt
-    ensures { record_of result ≡ on_cursor from (draw_at s.now) }
+#[tactic(auto, unfolding(crate::specs::Records::draw_at))]
+fn draw_fields<'a>(fields: &mut Cursor<'a>) -> Option<Record<'a>>
+    ensures { record_to result fields.new.at ≡ says draw_at fields.old }
 {
-    let handle = cursor::number(s, from);
-    let strength = cursor::number(s, handle.next);
-    let request = cursor::number_up_to(s, strength.next, 65536);
-    let additional = cursor::string(s, request.next);
-    let additional_part = additional.part;
-    let r = Record::Draw {
-        handle: handle.value,
-        strength: strength.value,
-        request: request.value,
-        additional: additional_part,
-    };
-    ended(r, additional.next)
+    Some(Record::Draw {
+        handle: fields.number()?,
+        strength: fields.number()?,
+        request: fields.number_up_to(65536)?,
+        additional: fields.string()?,
+    })
 }
 
-fn fresh_draw_fields(s: &[u8], from: Cursor) -> RecordAt
-    ensures { record_of result ≡ on_cursor from (fresh_draw_at s.now) }
+#[tactic(auto, unfolding(crate::specs::Records::fresh_draw_at))]
+fn fresh_draw_fields<'a>(fields: &mut Cursor<'a>) -> Option<Record<'a>>
+    ensures { record_to result fields.new.at ≡ says fresh_draw_at fields.old }
 {
-    let handle = cursor::number(s, from);
-    let strength = cursor::number(s, handle.next);
-    let request = cursor::number_up_to(s, strength.next, 65536);
-    let entropy = cursor::string(s, request.next);
-    let additional = cursor::string(s, entropy.next);
-    let entropy_part = entropy.part;
-    let additional_part = additional.part;
-    let r = Record::FreshDraw {
-        handle: handle.value,
-        strength: strength.value,
-        request: request.value,
-        entropy: entropy_part,
-        additional: additional_part,
-    };
-    ended(r, additional.next)
+    Some(Record::FreshDraw {
+        handle: fields.number()?,
+        strength: fields.number()?,
+        request: fields.number_up_to(65536)?,
+        entropy: fields.string()?,
+        additional: fields.string()?,
+    })
 }
 
-fn close_fields(s: &[u8], from: Cursor) -> RecordAt
-    ensures { record_of result ≡ on_cursor from (close_at s.now) }
+#[tactic(auto, unfolding(crate::specs::Records::close_at))]
+fn close_fields<'a>(fields: &mut Cursor<'a>) -> Option<Record<'a>>
+    ensures { record_to result fields.new.at ≡ says close_at fields.old }
 {
-    let handle = cursor::number(s, from);
-    let r = Record::Close {
-        handle: handle.value,
-    };
-    ended(r, handle.next)
+    Some(Record::Close {
+        handle: fields.number()?,
+    })
 }
 
-fn inquire_fields(s: &[u8], from: Cursor) -> RecordAt
-    ensures { record_of result ≡ on_cursor from (inquire_at s.now) }
+#[tactic(auto, unfolding(crate::specs::Records::inquire_at))]
+fn inquire_fields<'a>(fields: &mut Cursor<'a>) -> Option<Record<'a>>
+    ensures { record_to result fields.new.at ≡ says inquire_at fields.old }
 {
-    let handle = cursor::number(s, from);
-    let r = Record::Inquire {
-        handle: handle.value,
-    };
-    ended(r, handle.next)
+    Some(Record::Inquire {
+        handle: fields.number()?,
+    })
 }
 
-pub fn record_at(s: &[u8], at: usize) -> RecordAt
-    ensures { record_of result ≡ record_at s.now at }
+#[tactic(auto, unfolding(crate::specs::Records::fields_at))]
+fn fields_of<'a>(kind: u64, fields: &mut Cursor<'a>) -> Option<Record<'a>>
+    ensures { record_to result fields.new.at ≡ says (fields_at kind) fields.old }
 {
-    let kind = cursor::number(s, Cursor { at, bad: false });
-    let fields = kind.next;
-    let k = kind.value;
-    match k {
-        1 => open_fields(s, fields),
-        2 => reseed_fields(s, fields),
-        3 => draw_fields(s, fields),
-        4 => fresh_draw_fields(s, fields),
-        5 => close_fields(s, fields),
-        6 => inquire_fields(s, fields),
-        _ => RecordAt::Bad,
+    match kind {
+        1 => open_fields(fields),
+        2 => reseed_fields(fields),
+        3 => draw_fields(fields),
+        4 => fresh_draw_fields(fields),
+        5 => close_fields(fields),
+        6 => inquire_fields(fields),
+        _ => None,
     }
+}
+
+// The record and the next place, if one can be read.
+#[tactic(auto, unfolding(crate::specs::Records::record_at))]
+pub fn record_at(s: &[u8], at: usize) -> Option<(Record<'_>, usize)>
+    ensures { record_of result ≡ read_map (meaning_of s.now) (record_at s.now at) }
+{
+    let mut fields = Cursor { book: s, at };
+    let kind = fields.number()?;
+    let record = fields_of(kind, &mut fields)?;
+    Some((record, fields.at))
 }

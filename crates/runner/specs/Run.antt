@@ -1,16 +1,15 @@
 -- What running a book prints: a line for each record's answer, from a fresh table, and `book N` for what can't be read.
 -- The table stands in 2,148 bytes, all zero at first. A draw here lends zeros; what is printed tells nothing of what was lent
 -- (proofs/Lent.antt).
-use Rattle.std.specs.Prelude.{ℕ, ◌+◌, ◌*◌, ◌≤◌, ◌≡◌, List, [], ◌++◌, eqb, take, replicate}
+use Rattle.std.specs.Prelude.{ℕ, ◌+◌, ◌*◌, ◌≡◌, List, [], ◌++◌, eqb, take, replicate}
 use Rattle.slots.specs.Sizes.{table_size}
 use Rattle.table.specs.Calls.{Call, opens, reseeds, draws, fresh_draws, closes, inquires}
-use Rattle.table.specs.OnBytes.{Done, in_bytes}
+use Rattle.table.specs.OnBytes.{Told, Done, in_bytes}
 use Rattle.book.specs.Lines.{line, bad_line}
 use Rattle.book.specs.Records as records
 use Rattle.book.specs.Records.{Meaning, meaning_of, kind_of}
-use Rattle.text.specs.Writing.{Appends}
+use Rattle.text.specs.Writing.{Written, ◌then◌}
 use Rattle.book.specs.Books.{Contents, more, end, stopped, contents_at, contents_of}
-use Rattle.runner.specs.declared.Answered.{Answered}
 
 -- the call that a record asks for
 abbrev pub call_of : Meaning → Call
@@ -60,13 +59,21 @@ line_size = 84 + 2 * output_size
 abbrev pub text_size : ℕ
 text_size = 4096 + line_size
 
--- a record was answered: its line is the record's, and the table is the next one
-pub record Answers (table : List ℕ) (m : Meaning) (a : Answered) (out next : List ℕ) : Type 0 where
-  pub few : a.drawn ≤ output_size
-  pub says : line a.kind a.told.number a.told.blocks a.told.value (take a.drawn out) ≡ line_for table m
+-- how many bytes a record asks for
+abbrev pub request_of : Meaning → ℕ
+request_of (records.draws handle strength request additional) = request
+request_of (records.fresh_draws handle strength request entropy additional) = request
+request_of (records.opens mechanism strength interval fresh entropy nonce personalization) = 0
+request_of (records.reseeds handle entropy additional) = 0
+request_of (records.closes handle) = 0
+request_of (records.inquires handle) = 0
+
+-- a record was answered, and what it asked for is at the front of the output: its line is the record's, and the table is the next one
+pub record Answers (table : List ℕ) (m : Meaning) (told : Told) (out next : List ℕ) : Type 0 where
+  pub says : line (kind_of m) told.number told.blocks told.value (take (request_of m) out) ≡ line_for table m
   pub moves : next ≡ table_after table m
 
--- a record was run: its line stands in the text at a place, and the table is the next one
-pub record Ran (table : List ℕ) (m : Meaning) (old : List ℕ) (at end : ℕ) (text next : List ℕ) : Type 0 where
-  pub line : Appends old at (line_for table m) end text
+-- a record was run: its line is written behind the text, and the table is the next one
+pub record Ran (table : List ℕ) (m : Meaning) (old text : Written) (next : List ℕ) : Type 0 where
+  pub line : text ≡ old then line_for table m
   pub moves : next ≡ table_after table m

@@ -8,16 +8,12 @@ ghost use Rattle.sha256.specs.Values.{digest_of};
 use sha256::running;
 use sha256::running::{Digest, Running};
 use std::io;
-use test_output::{print_bytes, print_number, print_text};
+use test_output::print_bytes;
 
-fn print_line(rt: &impl Print, name: &[u8], size: usize, d: Digest) -> io::Result<()> {
-    print_text(rt, name)?;
-    print_number(rt, size as u64)?;
-    print_number(rt, d.blocks)?;
-    print_text(rt, b" ")?;
-    let bytes = d.bytes;
-    print_bytes(rt, bytes)?;
-    print_text(rt, b"\n")
+fn print_line(rt: &impl Print, name: &str, size: usize, d: Digest) -> io::Result<()> {
+    print!(rt; "{name} {size} {} ", d.blocks)?;
+    print_bytes(rt, d.bytes)?;
+    println!(rt)
 }
 
 // The hash of s, fed in pieces of `size` bytes.
@@ -26,27 +22,16 @@ fn in_pieces(s: &[u8], size: usize) -> Digest
     ensures { digest_of result ≡ hash sha256 s.now }
 {
     let mut h = Running::new();
-    let mut at = 0;
-    while at < s.len() {
-        let n = running::least(size, s.len() - at);
-        let next = h.update(&s[at..at + n]);
-        h = next;
-        at += n;
+    for piece in s.chunks(size) {
+        h = h.update(piece);
     }
     h.finish().digest()
 }
 
-fn print_pieces(rt: &impl Print, name: &[u8], message: &[u8], size: usize) -> io::Result<()>
-    requires { 0 < size }
-{
-    print_line(rt, name, size, in_pieces(message, size))
-}
-
-pub fn print_all(rt: &impl Print, name: &[u8], message: &[u8]) -> io::Result<()> {
+pub fn print_all(rt: &impl Print, name: &str, message: &[u8]) -> io::Result<()> {
     print_line(rt, name, 0, running::hash_of(message))?;
-    print_pieces(rt, name, message, 1)?;
-    print_pieces(rt, name, message, 63)?;
-    print_pieces(rt, name, message, 64)?;
-    print_pieces(rt, name, message, 65)?;
-    print_pieces(rt, name, message, 200)
+    for size in [1, 63, 64, 65, 200] {
+        print_line(rt, name, size, in_pieces(message, size))?;
+    }
+    Ok(())
 }

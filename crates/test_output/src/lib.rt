@@ -10,17 +10,12 @@ pub fn print_text(rt: &impl Print, s: &[u8]) -> io::Result<()> {
 
 // A space, and the number in decimal.
 pub fn print_number(rt: &impl Print, n: u64) -> io::Result<()> {
-    print_text(rt, b" ")?;
-    print!(rt; "{n}")
+    print!(rt; " {n}")
 }
 
-fn wide(b: u8) -> u64 {
-    b as u64
-}
-
+// Two hexadecimal digits a byte.
 pub fn print_bytes(rt: &impl Print, bytes: [u8; 32]) -> io::Result<()> {
-    for i in 0..32 {
-        let b = wide(bytes[i]);
+    for b in bytes {
         print!(rt; "{b:02x}")?;
     }
     Ok(())

@@ -1,40 +1,29 @@
--- Each kind's call is made with the record's own fields, and its line says what the call told.
-use Rattle.std.proofs.Common.{refl, subst}
-use Rattle.book.specs.Records.{Fits, meaning_of}
-use Rattle.runner.proofs.Records.{answers_as, answers_open, answers_reseed, answers_draw, answers_fresh_draw}
-use Rattle.runner.proofs.Records.{answers_close, answers_inquire}
+-- Each kind's call is made with the record's own fields.
+use Rattle.std.proofs.Common.{arith, refl, subst}
+use Rattle.book.specs.Records.{Fits}
+use Rattle.book.specs.Values.{meaning}
+use Rattle.runner.proofs.Records.{answered_as, told_all, answers_open, answers_draw, answers_fresh_draw}
 use Rattle.runner.proofs.answer.Goals as goal
 
 pub returns-in-Open : goal.returns-in-Open
-returns-in-Open c =
-    answers_as c.args.book.now c.in-Open.is
-    (answers_open c.args.table.now _ _ _ _ _ _ _ _ c.bytes_of-lent.ensures c.bytes_of-once.ensures c.bytes_of.ensures
-    c.open-told.ensures refl)
+returns-in-Open c = answered_as c.in-Open.is (answers_open _ _ _ _ _ _ _ _ _ _ _ c.open.ensures)
 
 pub returns-in-Reseed : goal.returns-in-Reseed
-returns-in-Reseed c =
-    answers_as c.args.book.now c.in-Reseed.is
-    (answers_reseed c.args.table.now _ _ _ _ _ c.bytes_of-lent-in-Reseed.ensures c.bytes_of-in-Reseed.ensures
-    c.reseed-told.ensures refl)
+returns-in-Reseed c = answered_as c.in-Reseed.is (told_all _ _ _ _ _ refl c.reseed.ensures)
 
 pub returns-in-Draw : goal.returns-in-Draw
 returns-in-Draw c =
-    let fits = subst (λ r. Fits (meaning_of c.args.book.now r)) c.in-Draw.is c.requires.fits.0 in
-    answers_as c.args.book.now c.in-Draw.is
-    (answers_draw c.args.table.now _ _ _ _ _ _ c.args.out.now _ fits.2 c.requires.out_len c.draw-told.auto.out
-    c.bytes_of-in-Draw.ensures c.draw-told.ensures refl)
+    let fits = subst (λ r. Fits (meaning r)) c.in-Draw.is c.requires in
+    answered_as c.in-Draw.is (answers_draw _ _ _ _ _ _ c.args.out.now _ fits.2 (omega arith) c.draw.auto.out _ c.draw.ensures)
 
 pub returns-in-FreshDraw : goal.returns-in-FreshDraw
 returns-in-FreshDraw c =
-    let fits = subst (λ r. Fits (meaning_of c.args.book.now r)) c.in-FreshDraw.is c.requires.fits.0 in
-    answers_as c.args.book.now c.in-FreshDraw.is
-    (answers_fresh_draw c.args.table.now _ _ _ _ _ _ c.args.out.now _ fits.2 c.requires.out_len c.fresh_draw-told.auto.out
-    c.bytes_of-lent-in-FreshDraw.ensures c.bytes_of-in-FreshDraw.ensures c.fresh_draw-told.ensures refl)
+    let fits = subst (λ r. Fits (meaning r)) c.in-FreshDraw.is c.requires in
+    answered_as c.in-FreshDraw.is
+    (answers_fresh_draw _ _ _ _ _ _ c.args.out.now _ fits.2 (omega arith) c.fresh_draw.auto.out _ _ c.fresh_draw.ensures)
 
 pub returns-in-Close : goal.returns-in-Close
-returns-in-Close c =
-    answers_as c.args.book.now c.in-Close.is (answers_close c.args.table.now _ _ _ _ _ c.close-told.ensures refl)
+returns-in-Close c = answered_as c.in-Close.is (told_all _ _ _ _ _ refl c.close.ensures)
 
 pub returns-in-Inquire : goal.returns-in-Inquire
-returns-in-Inquire c =
-    answers_as c.args.book.now c.in-Inquire.is (answers_inquire c.args.table.now _ _ _ _ _ c.inquire-told.ensures refl)
+returns-in-Inquire c = answered_as c.in-Inquire.is (told_all _ _ _ _ _ refl c.inquire.ensures)

@@ -2,7 +2,7 @@
 use Rattle.runner.proofs.Runs.{handed_next}
 use Rattle.runner.proofs.run.Goals as goal
 
-pub loop-at-preserved : goal.loop-at-preserved
-loop-at-preserved g c =
-    let some = c.run_some-piece.ensures in
-    record { within = some.within.0; handed = handed_next c.loop-at.invariant.handed some.prints }
+pub loop-table-preserved : goal.loop-table-preserved
+loop-table-preserved g c =
+    let some = c.run_some-at.ensures in
+    record { size = some.within.0; handed = handed_next c.loop-table.invariant.handed some.prints }

@@ -1,13 +1,15 @@
--- The lines so far and what is left are all that was to be printed; there is room for the longest line.
-use Rattle.std.proofs.Common.{length, ◌-◌, ◌≤◌, ◌<◌}
+-- The lines so far and what is left are all that was to be printed.
+use Rattle.std.proofs.Common.{◌≡◌, length, ◌-◌, ◌≤◌, ◌<◌}
+use Rattle.runner.specs.Run.{text_size}
 use Rattle.runner.proofs.Runs.{SoFar}
 use Rattle.runner.proofs.run_some.Given as goal
 
 abbrev pub invariant-loop-at : goal.invariant-loop-at
 invariant-loop-at l = record {
-  further : l.fn.from ≤ l.at;
-  room : l.end < 4096;
-  so_far : SoFar l.book l.fn.table l.from l.table l.at l.text l.end;
+  place : l.fn.from ≤ l.at;
+  further : 0 < length l.text.text → l.fn.from < l.at;
+  size : l.text.size ≡ text_size;
+  so_far : SoFar l.book l.fn.table l.from l.table l.at l.text.text;
 }
 
 abbrev pub decreases-loop-at : goal.decreases-loop-at

@@ -1,24 +1,24 @@
 -- A piece is read behind those before it; at the end all of the message is, and then the padding.
-use Rattle.std.proofs.Common.{◌≡◌, ◌+◌, ◌-◌, arith, sym, subst, take_all}
-use lib.Seq.{take-add}
+use Rattle.std.proofs.Common.{◌≡◌, ◌∙◌, ◌++◌, sym, ap, subst, append_assoc, append-nil, rules}
+use Rattle.std.proofs.lemmas.List.{nil_from_length}
 use Rattle.sha256.specs.Fed.{HasRead}
 use Rattle.sha256.proofs.Feeding.{read-padded}
 use Rattle.test_files.proofs.hashes.in_pieces.Goals as goal
 
-pub loop-at-preserved : goal.loop-at-preserved
-loop-at-preserved c =
-    let at = c.loop-at.at in
-    let n = c.least-n.result in
-    let size : at + n - at ≡ n = omega arith in
-    record {
-      inside = omega arith;
-      has_read =
-          subst (λ x. HasRead x c.update-next.result) (sym (take-add at n c.args.s.now))
-          ((rw size at c.update-next.ensures).after _ c.loop-at.invariant.has_read);
-    }
+pub loop-piece-preserved : goal.loop-piece-preserved
+loop-piece-preserved c =
+    let so_far = c.loop-piece.invariant in
+    let done = so_far.2 in (
+      search rules,
+      tt,
+      done ++ c.in-Some.piece.now,
+      c.update-h.ensures.after done so_far.3,
+      append_assoc done _ _ ∙ ap (λ l. done ++ l) (sym c.in-Some.ensures.steps.1.0) ∙ so_far.4,
+    )
 
 pub returns : goal.returns
 returns c =
-    let all : HasRead c.args.s.now c.loop-at.h =
-    subst (λ x. HasRead x c.loop-at.h) (take_all c.loop-at.at c.args.s.now c.loop-at-test.false) c.loop-at.invariant.has_read in
-    c.digest.ensures _ (read-padded all c.finish.ensures)
+    let so_far = c.loop-piece.invariant in
+    let none = nil_from_length _ c.in-None.ensures.steps.1.0 in
+    let all : so_far.2 ≡ c.args.s.now = sym (append-nil so_far.2) ∙ ap (λ l. so_far.2 ++ l) (sym none) ∙ so_far.4 in
+    c.digest.ensures _ (read-padded (subst (λ m. HasRead m c.loop-piece.h) all so_far.3) c.finish.ensures)

@@ -1,6 +1,6 @@
 -- What a read adds lies within the rest of the buffer.
 use Rattle.std.proofs.Common.{length, ◌-◌, ◌≤◌}
-use Rattle.purangsa.proofs.read_book.Given as goal
+use Rattle.input.proofs.read_full.Given as goal
 
 abbrev pub invariant-loop-at : goal.invariant-loop-at
 invariant-loop-at g l = l.at ≤ length l.buffer

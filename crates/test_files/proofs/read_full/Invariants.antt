@@ -1,9 +1,0 @@
--- What a read adds lies within the rest of the buffer.
-use Rattle.std.proofs.Common.{length, ◌-◌, ◌≤◌}
-use Rattle.test_files.proofs.read_full.Given as goal
-
-abbrev pub invariant-loop-at : goal.invariant-loop-at
-invariant-loop-at g l = l.at ≤ length l.buffer
-
-abbrev pub decreases-loop-at : goal.decreases-loop-at
-decreases-loop-at g l = length l.buffer - l.at
