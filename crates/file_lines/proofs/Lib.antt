@@ -1,3 +1,2 @@
 -- Laws of lines.
 pub mod Lines
-pub mod Steps

@@ -1,10 +1,15 @@
 -- What is promised of a line that is held in a buffer while the window moves on: one of fewer than 4,098 characters whole, of a longer
 -- one that it is longer.
-use Rattle.std.specs.Prelude.{ℕ, ◌≤◌, ◌<◌, ◌≡◌, Bool, true, false, List, [], ◌∷◌, ◌++◌, length, take, drop}
+use Rattle.std.specs.Prelude.{ℕ, ◌≤◌, ◌<◌, ◌≡◌, Bool, true, false, List, [], ◌∷◌, ◌++◌, length, take, drop, unwrap_or}
 use Rattle.file_lines.specs.Lines.{ended, lines_from}
+use Rattle.file_lines.specs.declared.Held as code
 
 abbrev pub line_size : ℕ
 line_size = 4098
+
+-- where the window goes on: behind the line's end, or at its own
+abbrev pub next_of : (window : List ℕ) → code.Held → ℕ
+next_of window h = unwrap_or h.next (length window)
 
 pub record Holds (buffer : List ℕ) (held : ℕ) (line : List ℕ) : Type 0 where
   pub short : held < line_size → take held buffer ≡ line

@@ -1,5 +1,4 @@
--- Laws of points, of what is kept, and of cases, written and read.
-pub mod Points
+-- Laws of what is kept, and of cases, written and read.
 pub mod Kept
 pub mod Steps
 pub mod Fields

@@ -12,13 +12,12 @@ use Rattle.rsp_line.specs.Lines.{Says, nothing, hash, resists, bits, counts, giv
 use Rattle.rsp_case.specs.Cases.{Field, ◌is◌, Case, case_of}
 use Rattle.rsp_case.specs.Store.{stored}
 use Rattle.rsp_case.specs.Heads.{heads_under, with_fresh, with_length, length_for, fits}
-use Rattle.rsp_case.specs.Points.{follows, headed, counted, passed, taken, given}
+use Rattle.rsp_case.specs.Points.{Next, follows, headed, counted, passed, taken, given}
 use Rattle.rsp_case.specs.Reading.{State, taken_as, takes, Taken, goes, whole, passed_over, unread}
 use Rattle.rsp_case.specs.Written.{fields_said, Headings, none, of_hash, of_fresh, of_length, all_fit}
 use Rattle.rsp_case.specs.Written.{Lines, final, line, blank, CaseLines, ReadAs, ends, goes_on, between}
 use Rattle.rsp_case.specs.declared.heads.Heads.{Heads}
-use Rattle.rsp_case.specs.declared.point.Next.{Next}
-use Rattle.rsp_line.proofs.Lists.{and_left, and_right}
+use Rattle.std.proofs.lemmas.Bool.{and_parts}
 use Rattle.rsp_case.proofs.Fields.{size, size-more, size-last, returning, inside, Good}
 use Rattle.rsp_case.proofs.Steps.{Drawn, Follows, May, field, returned, follows_is, may_follow}
 use Rattle.rsp_case.proofs.Steps.{Along, done, more, Opening, along_opening}
@@ -67,10 +66,10 @@ module _ (s : State) where
         (λ own.
         either P ((order && fit) && room)
         (λ good.
-        let both = and_left (order && fit) room good in
+        let both = (and_parts (order && fit) room good).0 in
         taken-inside name value (not-false s.point.heads.ours own)
-        (record { fit = and_right order fit both; room = leb-true _ 65536 (and_right (order && fit) room good) })
-        (may_follow s.point.last name (and_left order fit both)))
+        (record { fit = (and_parts order fit both).1; room = leb-true _ 65536 ((and_parts (order && fit) room good).1) })
+        (may_follow s.point.last name ((and_parts order fit both).0)))
         (λ bad. stops)))
       where
         not-true : (b : Bool) → not b ≡ true → b ≡ false

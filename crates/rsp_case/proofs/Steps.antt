@@ -9,7 +9,7 @@ use lib.Dec.{eqb}
 use Rattle.rsp_case.specs.Cases.{Step, draws, fresh_draws, reseeds, Field, ◌is◌, step_fields, steps_fields, steps_of}
 use Rattle.rsp_case.specs.Points.{drawn, stepped, follows}
 use Rattle.rsp_case.specs.Written.{is_draw, ends_drawn}
-use Rattle.rsp_line.proofs.Lists.{and_left, and_right}
+use Rattle.std.proofs.lemmas.Bool.{and_parts}
 
 pub steps-read : (steps : List Step) → steps_of (steps_fields steps) ≡ steps
 unfolding steps_of steps_fields
@@ -93,17 +93,17 @@ may_follow last name =
     (only 7 6 (field reseeded)))
     (only 8 4 (field freshened)))
     (λ h.
-    row (May last) 5 (returned (drawn-is last (and_right (eqb name 5) (drawn last) h))) (and_left (eqb name 5) (drawn last) h))
+    row (May last) 5 (returned (drawn-is last ((and_parts (eqb name 5) (drawn last) h).1))) ((and_parts (eqb name 5) (drawn last) h).0))
   where
     only : (n k : ℕ) → May k n → (eqb name n && eqb last k) ≡ true → May last name
     only n k m h =
-        row (λ l. May l name) k (row (May k) n m (and_left (eqb name n) (eqb last k) h)) (and_right (eqb name n) (eqb last k) h)
+        row (λ l. May l name) k (row (May k) n m ((and_parts (eqb name n) (eqb last k) h).0)) ((and_parts (eqb name n) (eqb last k) h).1)
 
     steps : ((eqb name 4 || eqb name 6) && stepped last) ≡ true → May last name
     steps h =
-        let behind = stepped-is last (and_right (eqb name 4 || eqb name 6) (stepped last) h) in
+        let behind = stepped-is last ((and_parts (eqb name 4 || eqb name 6) (stepped last) h).1) in
         one_of (eqb name 4) (eqb name 6) (row (May last) 4 (field (draw behind))) (row (May last) 6 (field (reseed behind)))
-        (and_left (eqb name 4 || eqb name 6) (stepped last) h)
+        ((and_parts (eqb name 4 || eqb name 6) (stepped last) h).0)
 
 -- ---- fields in that order, up to what was returned
 

@@ -16,7 +16,7 @@ use Rattle.rsp_case.specs.Reading.{State, taken_as, takes, goes, whole}
 use Rattle.rsp_case.specs.Written.{all_fields, fields_said, Headings, none, of_hash, of_fresh, of_length, all_fit}
 use Rattle.rsp_case.specs.Written.{Lines, final, line, blank, CaseLines, ReadAs, ends, goes_on, between}
 use Rattle.rsp_case.specs.declared.heads.Heads.{Heads}
-use Rattle.rsp_line.proofs.Lists.{and_left, and_right}
+use Rattle.std.proofs.lemmas.Bool.{and_parts}
 use Rattle.rsp_case.proofs.Fields.{size, size-more, size-last, returning, inside, Good}
 use Rattle.rsp_case.proofs.Steps.{steps-read, Drawn, Follows, drawn-follows, follows_is, Along, done, more, opening_along}
 
@@ -81,7 +81,10 @@ module _ (h : Heads) (number : ℕ) (ours : h.ours ≡ true) where
     where
       good : Good h kept 5 value
       good =
-          record { fit = and_left (fits (length_for h 5) (length value)) true fit; room = omega (arith, room, size-more (5 is value) []) }
+          record {
+            fit = (and_parts (fits (length_for h 5) (length value)) true fit).0;
+            room = omega (arith, room, size-more (5 is value) []);
+          }
   fields_read {k} {lines = lines} kept value in-case (more {name = name} {value = v} {fields = fields} order rest) fit room said =
       let f = name is v in
       let this = fits (length_for h name) (length v) in
@@ -90,10 +93,11 @@ module _ (h : Heads) (number : ℕ) (ours : h.ours ≡ true) where
       let behind = size-last kept f in
       subst (λ l. ReadAs (case_of number l value) (between h number) (inside h number k kept) lines) (append_assoc kept (f ∷ []) fields)
       (read-line
-      (field-taken k name kept v in-case (record { fit = and_left this (all_fit h others) fit; room = omega (arith, room, taking) }) order)
+      (field-taken k name kept v in-case
+      (record { fit = (and_parts this (all_fit h others) fit).0; room = omega (arith, room, taking) }) order)
       (some-field fields value)
       (λ rest_lines said.
-      fields_read (kept ++ (f ∷ [])) value (follows_is order).2 rest (and_right this (all_fit h others) fit)
+      fields_read (kept ++ (f ∷ [])) value (follows_is order).2 rest ((and_parts this (all_fit h others) fit).1)
       (omega (arith, room, taking, behind)) said)
       said)
 

@@ -1,9 +1,8 @@
 -- What the headings have said: whether a hash was named and is ours, prediction resistance, and the lengths of the fields in bits.
-use Rattle.std.specs.Prelude.{ℕ, ◌*◌, Bool, true, false, ◌||◌, cond, eqb}
+use Rattle.std.specs.Prelude.{ℕ, ◌*◌, Bool, true, false, ◌||◌, cond, eqb, Option, Some, None}
 use Rattle.rsp_line.specs.Names.{entropy_input, nonce, personalization_string, additional_input, returned_bits}
-use Rattle.rsp_line.specs.Names.{entropy_input_reseed, additional_input_reseed, entropy_input_pr}
-use Rattle.rsp_case.specs.declared.heads.Length.{Length}
-use Rattle.rsp_case.specs.declared.heads.Length.TheVariants.{Any, Bits}
+use Rattle.rsp_line.specs.Names.{entropy_input_reseed, additional_input_reseed, entropy_input_pr, number_of}
+use Rattle.rsp_line.specs.declared.line.Heading as Heading
 use Rattle.rsp_case.specs.declared.heads.Heads.{Heads}
 
 -- none so far
@@ -13,11 +12,11 @@ no_heads =
       known = false;
       ours = false;
       fresh = false;
-      entropy = Any;
-      nonce = Any;
-      personalization = Any;
-      additional = Any;
-      returned = Any;
+      entropy = None;
+      nonce = None;
+      personalization = None;
+      additional = None;
+      returned = None;
     }
 
 -- a hash was named: what the other headings said before it is over
@@ -27,11 +26,11 @@ heads_under ours =
       known = true;
       ours = ours;
       fresh = false;
-      entropy = Any;
-      nonce = Any;
-      personalization = Any;
-      additional = Any;
-      returned = Any;
+      entropy = None;
+      nonce = None;
+      personalization = None;
+      additional = None;
+      returned = None;
     }
 
 abbrev pub with_fresh : Heads → (fresh : Bool) → Heads
@@ -53,23 +52,29 @@ with_length h name n =
       known = h.known;
       ours = h.ours;
       fresh = h.fresh;
-      entropy = cond (eqb name entropy_input) (Bits n) h.entropy;
-      nonce = cond (eqb name nonce) (Bits n) h.nonce;
-      personalization = cond (eqb name personalization_string) (Bits n) h.personalization;
-      additional = cond (eqb name additional_input) (Bits n) h.additional;
-      returned = cond (eqb name returned_bits) (Bits n) h.returned;
+      entropy = cond (eqb name entropy_input) (Some n) h.entropy;
+      nonce = cond (eqb name nonce) (Some n) h.nonce;
+      personalization = cond (eqb name personalization_string) (Some n) h.personalization;
+      additional = cond (eqb name additional_input) (Some n) h.additional;
+      returned = cond (eqb name returned_bits) (Some n) h.returned;
     }
 
+-- one heading more
+abbrev pub heads_told : Heads → Heading.Heading → Heads
+heads_told h (Heading.TheVariants.Hash ours) = heads_under ours
+heads_told h (Heading.TheVariants.Resists fresh) = with_fresh h fresh
+heads_told h (Heading.TheVariants.Bits name n) = with_length h (number_of name) n
+
 -- what a field's length must be: one heading speaks of all entropy, another of all additional input
-abbrev pub length_for : Heads → (name : ℕ) → Length
+abbrev pub length_for : Heads → (name : ℕ) → Option ℕ
 length_for h name =
     cond ((eqb name entropy_input || eqb name entropy_input_reseed) || eqb name entropy_input_pr) h.entropy
     (cond (eqb name nonce) h.nonce
     (cond (eqb name personalization_string) h.personalization
     (cond (eqb name additional_input || eqb name additional_input_reseed) h.additional
-    (cond (eqb name returned_bits) h.returned Any))))
+    (cond (eqb name returned_bits) h.returned None))))
 
 -- a value of n bytes has the length
-abbrev pub fits : Length → (n : ℕ) → Bool
-fits Any n = true
-fits (Bits b) n = eqb (8 * n) b
+abbrev pub fits : Option ℕ → (n : ℕ) → Bool
+fits None n = true
+fits (Some b) n = eqb (8 * n) b

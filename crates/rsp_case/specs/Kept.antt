@@ -4,8 +4,7 @@ use Rattle.std.specs.Prelude.{ℕ, ◌≤◌, ◌<◌, ◌≡◌, List, length}
 use Rattle.text.specs.Writing.{Appends}
 use Rattle.rsp_case.specs.Cases.{Field}
 use Rattle.rsp_case.specs.Store.{field_bytes}
-use Rattle.rsp_case.specs.declared.point.Next.{Next}
-use Rattle.rsp_case.specs.declared.point.Next.TheVariants.{Goes, Keeps, Whole, PassedOver, Unread}
+use Rattle.rsp_case.specs.Points.{Next, Goes, Keeps, Whole, PassedOver, Unread}
 
 -- a field that is kept or was returned is inside a store of 65,536 bytes, and a name that is kept fits a byte
 abbrev pub Placed : (size name : ℕ) → Next → Type 0

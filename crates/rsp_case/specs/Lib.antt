@@ -3,6 +3,7 @@ pub mod Cases
 pub mod Store
 pub mod Heads
 pub mod Points
+pub mod Values
 pub mod Reading
 pub mod Kept
 pub mod Written

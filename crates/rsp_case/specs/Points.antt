@@ -5,8 +5,12 @@ use Rattle.rsp_line.specs.Names.{entropy_input_reseed, additional_input_reseed, 
 use Rattle.rsp_case.specs.Heads.{length_for, fits}
 use Rattle.rsp_case.specs.declared.heads.Heads.{Heads}
 use Rattle.rsp_case.specs.declared.point.Point.{Point}
-use Rattle.rsp_case.specs.declared.point.Next.{Next}
-use Rattle.rsp_case.specs.declared.point.Next.TheVariants.{Goes, Keeps, Whole, PassedOver, Unread}
+
+-- it goes on, with the line's field kept or not; the case is whole, the line's field being what was returned; the case is passed over;
+-- or the line can't be read
+pub data Next : Type 0 where
+  Goes Keeps Whole PassedOver : Point → Next
+  Unread : Next
 
 -- the published order: the opening's strings; then draws, each an AdditionalInput or one with EntropyInputPR behind it, and reseeds,
 -- each of two fields; behind a draw what it returned

@@ -5,10 +5,8 @@ use Rattle.rsp_line.specs.Lines.{Says, nothing, hash, resists, bits, counts, giv
 use Rattle.rsp_case.specs.Cases.{Field, ◌is◌, Case, case_of}
 use Rattle.rsp_case.specs.Store.{stored}
 use Rattle.rsp_case.specs.Heads.{no_heads, heads_under, with_fresh, with_length}
-use Rattle.rsp_case.specs.Points.{headed, counted, given}
+use Rattle.rsp_case.specs.Points.{Next, Goes, Keeps, Whole, PassedOver, Unread, headed, counted, given}
 use Rattle.rsp_case.specs.declared.point.Point.{Point}
-use Rattle.rsp_case.specs.declared.point.Next.{Next}
-use Rattle.rsp_case.specs.declared.point.Next.TheVariants.{Goes, Keeps, Whole, PassedOver, Unread}
 
 pub record State : Type 0 where
   pub point : Point

@@ -3,5 +3,6 @@
 #![tactic(auto)]
 
 pub mod heads;
+mod names;
 pub mod point;
 pub mod store;

@@ -1,136 +1,140 @@
-// How far the reading of a case has come, and what a line does to it. Names by their numbers, as the definitions have them
-// (rsp_line/specs/Names.antt): 1 EntropyInput, 2 Nonce, 3 PersonalizationString, 4 AdditionalInput, 5 ReturnedBits,
-// 6 EntropyInputReseed, 7 AdditionalInputReseed, 8 EntropyInputPR, 9 COUNT.
-ghost use Rattle.std.specs.Prelude.{◌≡◌, ◌+◌, ◌<◌, ◌≤◌};
-ghost use Rattle.rsp_case.specs.Points.{follows, behind, headed, counted, passed, taken, given};
+// How far the reading of a case has come, and what a line does to it.
+ghost use Rattle.std.specs.Prelude.{ℕ, ◌≡◌, true, ◌+◌, ◌<◌, ◌≤◌};
+ghost use Rattle.rsp_case.specs.Points.{follows, headed, counted, passed, taken, given};
+ghost use Rattle.rsp_case.specs.Values.{next_of, Returns};
 ghost use Rattle.rsp_case.specs.Kept.{Placed};
 
 use crate::heads;
 use crate::heads::Heads;
+use crate::names::{
+    ADDITIONAL_INPUT, ADDITIONAL_INPUT_RESEED, COUNT, ENTROPY_INPUT, ENTROPY_INPUT_PR,
+    ENTROPY_INPUT_RESEED, NO_NAME, NONCE, PERSONALIZATION_STRING, RETURNED_BITS,
+};
 
 // `last` is what stood last in the case at hand, COUNT or a field's name, 0 between cases; `number` is the case's COUNT.
-#[derive(Clone, Copy)]
+#[derive(Clone, Copy, Default)]
 pub struct Point {
     pub heads: Heads,
+    // A number, and not a Name: headed, counted and given answer for every number.
     pub last: u64,
     pub number: u64,
 }
 
-// It goes on, with the line's field kept or not; the case is whole, the line's field being what was returned; the case is passed over;
-// or the line can't be read.
+// It goes on, with the line's field kept or not; the case is whole, the line's field being what was returned, of so many bytes; the case
+// is passed over; or the line can't be read.
 #[derive(Clone, Copy)]
 pub enum Next {
     Goes(Point),
     Keeps(Point),
-    Whole(Point),
+    Whole(Point, usize),
     PassedOver(Point),
     Unread,
 }
 
-// The published order.
+// The published order. Numbers here and in what `given` hands them to, as there.
 #[tactic(auto, unfolding(crate::specs::Points::follows))]
 fn follows(last: u64, name: u64) -> bool
-    ensures { result ≡ follows last name }
+    ensures is { result ≡ follows last name }
+    ensures byte { result ≡ true → name < 256 }
 {
-    let drawn = (last == 4) | (last == 8);
-    let stepped = (last == 3) | drawn | (last == 7);
-    ((name == 1) & (last == 9))
-        | ((name == 2) & (last == 1))
-        | ((name == 3) & (last == 2))
-        | (((name == 4) | (name == 6)) & stepped)
-        | ((name == 7) & (last == 6))
-        | ((name == 8) & (last == 4))
-        | ((name == 5) & drawn)
+    matches!(
+        (last, name),
+        (COUNT, ENTROPY_INPUT)
+            | (ENTROPY_INPUT, NONCE)
+            | (NONCE, PERSONALIZATION_STRING)
+            | (
+                PERSONALIZATION_STRING
+                    | ADDITIONAL_INPUT
+                    | ENTROPY_INPUT_PR
+                    | ADDITIONAL_INPUT_RESEED,
+                ADDITIONAL_INPUT | ENTROPY_INPUT_RESEED
+            )
+            | (ENTROPY_INPUT_RESEED, ADDITIONAL_INPUT_RESEED)
+            | (ADDITIONAL_INPUT, ENTROPY_INPUT_PR)
+            | (ADDITIONAL_INPUT | ENTROPY_INPUT_PR, RETURNED_BITS)
+    )
 }
 
-// The point behind a line.
-fn behind(p: Point, last: u64) -> Point
-    ensures { result ≡ behind p last }
-{
-    let heads = p.heads;
-    Point {
-        heads,
-        last,
-        number: p.number,
+impl Point {
+    // A heading, which stands between cases.
+    #[tactic(auto, unfolding(crate::specs::Points::headed))]
+    pub fn headed(self, heads: Heads) -> Next
+        ensures { next_of result ≡ headed self heads }
+    {
+        match self.last {
+            NO_NAME => Next::Goes(Point { heads, ..self }),
+            _ => Next::Unread,
+        }
     }
-}
 
-// A heading, which stands between cases.
-#[tactic(auto, unfolding(crate::specs::Points::headed))]
-pub fn headed(p: Point, heads: Heads) -> Next
-    ensures { result ≡ headed p heads }
-{
-    if p.last == 0 {
-        let next = Point {
-            heads,
-            last: 0,
-            number: p.number,
-        };
-        return Next::Goes(next);
-    }
-    Next::Unread
-}
-
-// COUNT: a case begins.
-#[tactic(auto, unfolding(crate::specs::Points::counted))]
-pub fn counted(p: Point, number: u64) -> Next
-    ensures { result ≡ counted p number }
-{
-    let heads = p.heads;
-    if (p.last == 0) & heads.known {
-        let next = Point {
-            heads,
-            last: 9,
+    // COUNT: a case begins.
+    #[tactic(auto, unfolding(crate::specs::Points::counted))]
+    pub fn counted(self, number: u64) -> Next
+        ensures { next_of result ≡ counted self number }
+    {
+        if self.last != NO_NAME || !self.heads.known {
+            return Next::Unread;
+        }
+        Next::Goes(Point {
+            last: COUNT,
             number,
-        };
-        return Next::Goes(next);
+            ..self
+        })
     }
-    Next::Unread
-}
 
-// A field under another hash.
-#[tactic(auto, unfolding(crate::specs::Points::passed))]
-fn passed(p: Point, name: u64) -> Next
-    ensures { result ≡ passed p name }
-{
-    if name == 5 {
-        let next = behind(p, 0);
-        return Next::PassedOver(next);
+    // A field under another hash.
+    #[tactic(auto, unfolding(crate::specs::Points::passed))]
+    fn passed(self, name: u64) -> Next
+        ensures is { next_of result ≡ passed self name }
+        ensures returns { (n : ℕ) → Returns n result }
+    {
+        match name {
+            RETURNED_BITS => Next::PassedOver(Point {
+                last: NO_NAME,
+                ..self
+            }),
+            _ => Next::Goes(self),
+        }
     }
-    Next::Goes(p)
-}
 
-// A field under our hash, which stands where it may.
-#[tactic(auto, unfolding(crate::specs::Points::taken))]
-fn taken(p: Point, name: u64) -> Next
-    ensures { result ≡ taken p name }
-{
-    if name == 5 {
-        let next = behind(p, 0);
-        return Next::Whole(next);
+    // A field of n bytes under our hash, which stands where it may.
+    #[tactic(auto, unfolding(crate::specs::Points::taken))]
+    fn taken(self, name: u64, n: usize) -> Next
+        ensures is { next_of result ≡ taken self name }
+        ensures placed { (size : ℕ) → size ≤ 65536 → name < 256 → Placed size name (next_of result) }
+        ensures returns { Returns n result }
+    {
+        match name {
+            RETURNED_BITS => Next::Whole(
+                Point {
+                    last: NO_NAME,
+                    ..self
+                },
+                n,
+            ),
+            _ => Next::Keeps(Point { last: name, ..self }),
+        }
     }
-    let next = behind(p, name);
-    Next::Keeps(next)
-}
 
-// A field of n bytes, where so many are held of the case so far.
-#[tactic(auto, unfolding(crate::specs::Points::given))]
-pub fn given(p: Point, held: usize, name: u64, n: usize) -> Next
-    requires { (held ≤ 65536) × (n < 2048) }
-    ensures is { result ≡ given p held name n }
-    ensures placed { Placed (held + 3 + n) name result }
-{
-    let heads = p.heads;
-    if p.last == 0 {
-        return Next::Unread;
+    // A field of n bytes, where so many are held of the case so far.
+    // A number, and not a Name: given answers for every number.
+    #[tactic(auto, unfolding(crate::specs::Points::given, crate::specs::Points::passed))]
+    pub fn given(self, held: usize, name: u64, n: usize) -> Next
+        requires { (held ≤ 65536) × (n < 2048) }
+        ensures is { next_of result ≡ given self held name n }
+        ensures placed { Placed (held + 3 + n) name (next_of result) }
+        ensures returns { Returns n result }
+    {
+        if self.last == NO_NAME {
+            return Next::Unread;
+        }
+        if !self.heads.ours {
+            return self.passed(name);
+        }
+        let length = self.heads.length_for(name);
+        if follows(self.last, name) && heads::fits(length, n) && held + 3 + n <= 65536 {
+            return self.taken(name, n);
+        }
+        Next::Unread
     }
-    if !heads.ours {
-        return passed(p, name);
-    }
-    let length = heads::length_for(heads, name);
-    let good = follows(p.last, name) & heads::fits(length, n) & (held + 3 + n <= 65536);
-    if good {
-        return taken(p, name);
-    }
-    Next::Unread
 }

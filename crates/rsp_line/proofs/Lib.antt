@@ -2,7 +2,6 @@
 pub mod Lists
 pub mod Digits
 pub mod Numbers
-pub mod Names
 pub mod Lines
 pub mod Says
 pub mod Written

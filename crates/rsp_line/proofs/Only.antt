@@ -3,13 +3,13 @@ use Prim.Native.Nat.{ℕ, suc, ◌+◌, ◌-◌, ◌<◌, ◌≤◌}
 use mathlib.Core.Path.{◌≡◌, refl, sym, ap, ap₂, subst, ◌∙◌}
 use mathlib.Core.Bool.{Bool, true, false, cond, ◌&&◌, ◌||◌}
 use mathlib.Core.Logic.{inl, inr}
-use mathlib.Core.Option.{Option, none, some}
 use mathlib.Core.List.{List, [], ◌∷◌, ◌++◌, append_assoc}
 use native.Mathlib.Decide.{dec_lt}
 use native.Mathlib.Omega.{arith}
 use borrow.Author.Tests.{eqb-true, eqb-false, ltb-true, ltb-false}
 use lib.Dec.{eqb, leb, ltb, lit≤}
 use lib.ListN.{length, take, drop, get_or, take-append-drop, drop_of_length-le, get_or-eq_default}
+use Rattle.std.specs.Prelude.{Option, Some, None}
 use Rattle.text.specs.Ascii.{ascii}
 use Rattle.rsp_line.specs.Hex.{is_hex, bytes_of}
 use Rattle.rsp_line.specs.Decimal.{number_of}
@@ -18,7 +18,8 @@ use Rattle.rsp_line.specs.Names.{name_of, length_of}
 use Rattle.rsp_line.specs.Lines.{Says, nothing, hash, resists, bits, counts, gives, unread, on_number, on_named, name_end}
 use Rattle.rsp_line.specs.Lines.{field_says, truth_of, length_says, heading_says, heading_in, heading, field, says}
 use Rattle.rsp_line.specs.Written.{name_text, Line, Gives, Counts}
-use Rattle.rsp_line.proofs.Lists.{split, and_left, and_right}
+use Rattle.std.proofs.lemmas.Bool.{and_parts}
+use Rattle.rsp_line.proofs.Lists.{split}
 use Rattle.same.proofs.Sameness.{same-is}
 
 -- the number of a name is that of its text
@@ -97,10 +98,10 @@ module _ (s : List ℕ) (k : ℕ) (fits : length s ≤ 4096) (name : take (name_
 
   line-is : (ltb (name_end s) (length s) && (eqb (name_end s + 1) (length s) || eqb (get_or s (name_end s + 1) 0) 32)) ≡ true
       → Line k (drop (name_end s + 2) s) s
-  line-is h = go (eqb (name_end s + 1) (length s)) refl (and_right (ltb (name_end s) (length s)) _ h)
+  line-is h = go (eqb (name_end s + 1) (length s)) refl ((and_parts (ltb (name_end s) (length s)) _ h).1)
     where
       sign : name_end s < length s
-      sign = ltb-true _ _ (and_left (ltb (name_end s) (length s)) _ h)
+      sign = ltb-true _ _ ((and_parts (ltb (name_end s) (length s)) _ h).0)
 
       go : (last : Bool) → eqb (name_end s + 1) (length s) ≡ last → (last || eqb (get_or s (name_end s + 1) 0) 32) ≡ true
           → Line k (drop (name_end s + 2) s) s
@@ -127,8 +128,8 @@ module _ {s : List ℕ} where
 
   -- a heading
   bits_only : (name : ℕ) (o : Option ℕ) → Only s (on_number o (bits name))
-  bits_only name none = is-unread
-  bits_only name (some n) = is-length name n
+  bits_only name None = is-unread
+  bits_only name (Some n) = is-length name n
 
   truth_only : (value : List ℕ) → Only s (truth_of value)
   unfolding truth_of
@@ -165,8 +166,8 @@ at_most few h = omega (arith, h)
 -- a name and its value
 module _ (s w value : List ℕ) (line : (k : ℕ) → w ≡ name_text k → Line k value s) where
   counted : w ≡ name_text 9 → (o : Option ℕ) → number_of value ≡ o → Only s (on_number o counts)
-  counted name none is = is-unread
-  counted name (some n) is = is-count (record { digits = value; are = is; line = line 9 name })
+  counted name None is = is-unread
+  counted name (Some n) is = is-count (record { digits = value; are = is; line = line 9 name })
 
   given : (k : ℕ) → (k ≡ 0 → ⊥) → (k ≡ 9 → ⊥) → (k ≤ 9) × (w ≡ name_text k) → is_hex value ≡ true → Only s (gives k (bytes_of value))
   given k known other name whole =

@@ -5,9 +5,9 @@ use mathlib.Core.Bool.{Bool, true, false, cond, ◌&&◌}
 use mathlib.Core.Logic.{◌⊎◌, inl, inr}
 use mathlib.Core.List.{List, [], ◌∷◌, ◌++◌, append_assoc}
 use native.Mathlib.Omega.{arith}
-use borrow.Author.Tests.{ne_eqb, eqb-true, leb-true}
+use borrow.Author.Tests.{eq-eqb, ne_eqb, lt-ltb, eqb-true, leb-true}
 use lib.Dec.{eqb, leb, lit≤}
-use lib.ListN.{length, take, get_or, length-append}
+use lib.ListN.{length, get_or, length-append}
 use lib.Seq.{take-append_seam, drop-append-add, get_or-append-add}
 use Rattle.standard.specs.Strings.{Bytes}
 use Rattle.text.specs.Ascii.{ascii}
@@ -19,10 +19,9 @@ use Rattle.rsp_line.specs.Names.{name_of}
 use Rattle.rsp_line.specs.Lines.{Says, counts, gives, on_number, on_named, name_end}
 use Rattle.rsp_line.specs.Lines.{field_says, field, says}
 use Rattle.rsp_line.specs.Written.{name_text, field_line, count_line, Line, Gives, Counts}
-use Rattle.rsp_line.proofs.Lists.{and_left, and_right}
+use Rattle.std.proofs.lemmas.Bool.{and_parts}
 use Rattle.rsp_line.proofs.Digits.{hex-written}
 use Rattle.rsp_line.proofs.Numbers.{number-written}
-use Rattle.rsp_line.proofs.Lines.{value_empty, value_there}
 use Rattle.rsp_line.proofs.Says.{says-field}
 
 -- a name's text is read as its number, has no sign, and begins with a letter
@@ -55,20 +54,20 @@ names_tested (suc (suc (suc (suc (suc (suc (suc (suc (suc (suc k)))))))))) low h
 module _ (k : ℕ) (low : 1 ≤ k) (high : k ≤ 9) where
   name-known : name_of (name_text k) ≡ k
   unfolding tested
-  name-known = eqb-true _ _ (and_left (is_named k) (signless k && lettered k) (names_tested k low high))
+  name-known = eqb-true _ _ ((and_parts (is_named k) (signless k && lettered k) (names_tested k low high)).0)
 
   spelt : (signless k && lettered k) ≡ true
   unfolding tested
-  spelt = and_right (is_named k) (signless k && lettered k) (names_tested k low high)
+  spelt = (and_parts (is_named k) (signless k && lettered k) (names_tested k low high)).1
 
   no_sign_in : name_end (name_text k) ≡ length (name_text k)
-  no_sign_in = eqb-true _ _ (and_left (signless k) (lettered k) spelt)
+  no_sign_in = eqb-true _ _ ((and_parts (signless k) (lettered k) spelt).0)
 
   letter : (65 ≤ get_or (name_text k) 0 0) × (get_or (name_text k) 0 0 ≤ 90)
   letter =
       let c = get_or (name_text k) 0 0 in
-      let is = and_right (signless k) (lettered k) spelt in
-      (leb-true _ _ (and_left (leb 65 c) (leb c 90) is), leb-true _ _ (and_right (leb 65 c) (leb c 90) is))
+      let is = (and_parts (signless k) (lettered k) spelt).1 in
+      (leb-true _ _ ((and_parts (leb 65 c) (leb c 90) is).0), leb-true _ _ ((and_parts (leb 65 c) (leb c 90) is).1))
 
 -- the first sign stands behind a name that has none
 sign_behind : (w rest : List ℕ) → name_end w ≡ length w → name_end (w ++ (61 ∷ rest)) ≡ length w
@@ -89,16 +88,16 @@ module _ (f : (name value : List ℕ) → Says) (w : List ℕ) (plain : name_end
       let long : length s ≡ length w + length (61 ∷ 32 ∷ value) = length-append w (61 ∷ 32 ∷ value) in
       let more : length w + 1 ≡ length s → ⊥ = λ e. omega (arith, e, long) in
       let space = get_or-append-add w (61 ∷ 32 ∷ value) 1 0 in
-      let found = value_there s (length w + 1) (omega arith) (omega arith) more (length w + 2) space (omega arith) in
-      found.then f ∙ ap₂ f (ap (λ k. take k s) end ∙ take-append_seam w (61 ∷ 32 ∷ value)) (drop-append-add w (61 ∷ 32 ∷ value) 2)
+      rw (end, lt-ltb (length w) (length s) (omega (arith, long)), ne_eqb (length w + 1) (length s) more, eq-eqb _ 32 space)
+      (ap₂ f (take-append_seam w (61 ∷ 32 ∷ value)) (drop-append-add w (61 ∷ 32 ∷ value) 2))
 
   on_bare : on_named f (w ++ (61 ∷ [])) ≡ f w []
   on_bare =
       let s = w ++ (61 ∷ []) in
       let end : name_end s ≡ length w = sign_behind w [] plain in
       let long : length s ≡ length w + 1 = length-append w (61 ∷ []) in
-      let found = value_empty s (length w + 1) (omega arith) (omega arith) (omega arith) in
-      found.then f ∙ ap₂ f (ap (λ k. take k s) end ∙ take-append_seam w (61 ∷ [])) (drop-append-add w (61 ∷ []) 1)
+      rw (end, lt-ltb (length w) (length s) (omega (arith, long)), eq-eqb (length w + 1) (length s) (sym long))
+      (ap₂ f (take-append_seam w (61 ∷ [])) (drop-append-add w (61 ∷ []) 2))
 
 -- the first character is an upper-case letter
 pub record Starts (s : List ℕ) : Type 0 where

@@ -1,7 +1,6 @@
 -- What a line says, its end not being of it. `#` is 35, a space 32, `=` 61, `[` 91 and `]` 93.
 use Rattle.std.specs.Prelude.{ℕ, suc, ◌+◌, ◌-◌, Bool, true, false, ◌&&◌, ◌||◌, cond, List, [], ◌∷◌, eqb, leb, ltb, length, take, drop}
-use Rattle.std.specs.Prelude.{get_or}
-use Rattle.std.proofs.Math.Option.{Option, none, some}
+use Rattle.std.specs.Prelude.{get_or, Option, Some, None}
 use Rattle.text.specs.Ascii.{ascii}
 use Rattle.rsp_line.specs.Hex.{is_hex, bytes_of}
 use Rattle.rsp_line.specs.Decimal.{number_of}
@@ -19,8 +18,8 @@ pub data Says : Type 0 where
   unread : Says
 
 abbrev pub on_number : Option ℕ → (ℕ → Says) → Says
-on_number none f = unread
-on_number (some n) f = f n
+on_number None f = unread
+on_number (Some n) f = f n
 
 -- a field's value, or a case's number
 unfoldable pub field_says : (name : ℕ) (value : List ℕ) → Says

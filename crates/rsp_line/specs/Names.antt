@@ -1,7 +1,8 @@
 -- The names of fields and of headings, each with the space that stands behind it, and the numbers that stand for them here.
-use Rattle.std.specs.Prelude.{ℕ, cond, List}
+use Rattle.std.specs.Prelude.{ℕ, cond, List, Option, Some, None}
 use Rattle.same.specs.Same.{same}
 use Rattle.text.specs.Ascii.{ascii}
+use Rattle.rsp_line.specs.declared.name.Name as code
 
 abbrev pub entropy_input : ℕ
 entropy_input = 1
@@ -29,6 +30,22 @@ entropy_input_pr = 8
 
 abbrev pub count : ℕ
 count = 9
+
+-- the number of each name of the code, and 0 for none of them
+abbrev pub number_of : code.Name → ℕ
+number_of code.TheVariants.EntropyInput = entropy_input
+number_of code.TheVariants.Nonce = nonce
+number_of code.TheVariants.PersonalizationString = personalization_string
+number_of code.TheVariants.AdditionalInput = additional_input
+number_of code.TheVariants.ReturnedBits = returned_bits
+number_of code.TheVariants.EntropyInputReseed = entropy_input_reseed
+number_of code.TheVariants.AdditionalInputReseed = additional_input_reseed
+number_of code.TheVariants.EntropyInputPR = entropy_input_pr
+number_of code.TheVariants.Count = count
+
+abbrev pub name_number : Option code.Name → ℕ
+name_number None = 0
+name_number (Some name) = number_of name
 
 -- 0 for a name that is none of these
 unfoldable pub name_of : List ℕ → ℕ

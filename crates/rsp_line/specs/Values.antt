@@ -1,57 +1,51 @@
 -- What the code answers, as values of the definitions.
-use Rattle.std.specs.Prelude.{ℕ, ◌+◌, ◌-◌, ◌≤◌, ◌<◌, ◌≡◌, true, List, length, take, drop}
-use Rattle.std.proofs.Math.Option.{Option, none, some}
+use Rattle.std.specs.Prelude.{ℕ, ◌+◌, ◌-◌, ◌≤◌, ◌≡◌, Bool, true, List, length, drop, take, Option, Some, None}
+use Rattle.std.specs.Borrow.{Bor}
 use Rattle.rsp_line.specs.Hex.{is_hex, bytes_of}
+use Rattle.rsp_line.specs.Names.{number_of}
 use Rattle.rsp_line.specs.Lines.{Says, nothing, hash, resists, bits, counts, gives, unread, name_end, on_named}
-use Rattle.rsp_line.specs.declared.decimal.Number as Number
-use Rattle.rsp_line.specs.declared.line.ValueAt as Value
+use Rattle.rsp_line.specs.declared.line.Heading as Heading
 use Rattle.rsp_line.specs.declared.line.Said.{Said}
-use Rattle.rsp_line.specs.declared.line.Said.TheVariants.{Nothing, Hash, Resists, Bits, Count, Field, Unread}
+use Rattle.rsp_line.specs.declared.line.Said.TheVariants as said
 
-abbrev pub read_as : Number.Number → Option ℕ
-read_as (Number.TheVariants.Found v) = some v
-read_as Number.TheVariants.Bad = none
+abbrev pub truth_said : Option Bool → Says
+truth_said None = unread
+truth_said (Some b) = resists b
 
--- a field's digits stand in the line from a place on
-abbrev pub says_of : (s : List ℕ) → Said → Says
-says_of s Nothing = nothing
-says_of s (Hash ours) = hash ours
-says_of s (Resists b) = resists b
-says_of s (Bits name n) = bits name n
-says_of s (Count n) = counts n
-says_of s (Field name at) = gives name (bytes_of (drop at s))
-says_of s Unread = unread
+abbrev pub heading_said : Option Heading.Heading → Says
+heading_said None = unread
+heading_said (Some (Heading.TheVariants.Hash ours)) = hash ours
+heading_said (Some (Heading.TheVariants.Resists b)) = resists b
+heading_said (Some (Heading.TheVariants.Bits name n)) = bits (number_of name) n
 
--- they are whole bytes, of a line that has at most 4,096 characters
-abbrev pub DigitsIn : (s : List ℕ) → Said → Type 0
-DigitsIn s Nothing = Unit {0}
-DigitsIn s (Hash ours) = Unit {0}
-DigitsIn s (Resists b) = Unit {0}
-DigitsIn s (Bits name n) = Unit {0}
-DigitsIn s (Count n) = Unit {0}
-DigitsIn s (Field name at) = (at ≤ length s) × (is_hex (drop at s) ≡ true) × (length s - at ≤ 4094)
-DigitsIn s Unread = Unit {0}
+abbrev pub says_of : Option Said → Says
+says_of None = unread
+says_of (Some said.Nothing) = nothing
+says_of (Some (said.Heading h)) = heading_said (Some h)
+says_of (Some (said.Count n)) = counts n
+says_of (Some (said.Field name digits)) = gives (number_of name) (bytes_of digits.now)
+
+-- a field's digits are the last characters of the line, whole bytes, and of a line that has at most 4,096 characters
+pub record Digits (s digits : List ℕ) : Type 0 where
+  pub last : digits ≡ drop (length s - length digits) s
+  pub whole : is_hex digits ≡ true
+  pub short : length digits ≤ 4094
+
+abbrev pub DigitsIn : (s : List ℕ) → Option Said → Type 0
+DigitsIn s None = Unit {0}
+DigitsIn s (Some said.Nothing) = Unit {0}
+DigitsIn s (Some (said.Heading h)) = Unit {0}
+DigitsIn s (Some (said.Count n)) = Unit {0}
+DigitsIn s (Some (said.Field name digits)) = Digits s digits.now
 
 -- ---- what the functions promise on the way
 
-pub record Reads (s : List ℕ) (r : Said) (m : Says) : Type 0 where
-  pub says : says_of s r ≡ m
-  pub digits : DigitsIn s r
+pub record Value (s value : List ℕ) : Type 0 where
+  pub then : (f : (name value : List ℕ) → Says) → on_named f s ≡ f (take (name_end s) s) value
+  pub last : value ≡ drop (length s - length value) s
+  pub short : length value ≤ length s - (name_end s + 1)
 
--- a heading has no digits that stand in a line
-pub record Anywhere (r : Said) (m : Says) : Type 0 where
-  pub reads : (s : List ℕ) → Reads s r m
-
--- what is said of a name's value is said of the value at the place that was found
-abbrev pub on_value : (s : List ℕ) → Value.ValueAt → ((name value : List ℕ) → Says) → Says
-on_value s (Value.TheVariants.Found at) f = f (take (name_end s) s) (drop at s)
-on_value s Value.TheVariants.Bad f = unread
-
--- which is inside the line: the value is at most what stands behind the name and two characters more
-abbrev pub Behind : (s : List ℕ) → Value.ValueAt → Type 0
-Behind s (Value.TheVariants.Found at) = (name_end s < length s) × (at ≤ length s) × (length s - at ≤ length s - (name_end s + 2))
-Behind s Value.TheVariants.Bad = Unit {0}
-
-pub record Named (s : List ℕ) (r : Value.ValueAt) : Type 0 where
-  pub then : (f : (name value : List ℕ) → Says) → on_named f s ≡ on_value s r f
-  pub behind : Behind s r
+-- what is said of a name's value is said of what stands behind the sign
+abbrev pub Behind : (s : List ℕ) → Option (Bor (List ℕ)) → Type 0
+Behind s None = (f : (name value : List ℕ) → Says) → on_named f s ≡ unread
+Behind s (Some value) = Value s value.now

@@ -1,6 +1,5 @@
 -- How fields and a case's number are written, and which lines are read as them.
-use Rattle.std.specs.Prelude.{ℕ, ◌≤◌, ◌≡◌, true, ◌⊎◌, List, [], ◌∷◌, ◌++◌, length, get_or}
-use Rattle.std.proofs.Math.Option.{some}
+use Rattle.std.specs.Prelude.{ℕ, ◌≤◌, ◌≡◌, true, ◌⊎◌, List, [], ◌∷◌, ◌++◌, length, get_or, Some}
 use Rattle.text.specs.Ascii.{ascii}
 use Rattle.text.specs.Digits.{decimal, hex}
 use Rattle.rsp_line.specs.Hex.{is_hex, bytes_of}
@@ -38,5 +37,5 @@ pub record Gives (name : ℕ) (v s : List ℕ) : Type 0 where
 -- the line s begins the case of that number, with leading zeros or without
 pub record Counts (n : ℕ) (s : List ℕ) : Type 0 where
   pub digits : List ℕ
-  pub are : number_of digits ≡ some n
+  pub are : number_of digits ≡ Some n
   pub line : Line count digits s

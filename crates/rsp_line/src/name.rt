@@ -1,40 +1,75 @@
-// The names of fields and of headings, and the numbers that stand for them.
-ghost use Rattle.std.specs.Prelude.{◌≡◌, cond};
-ghost use Rattle.rsp_line.specs.Names.{name_of, length_of};
-ghost use Rattle.same.specs.Same.{same};
+// The names of fields and of headings.
+ghost use Rattle.std.specs.Prelude.{◌≡◌};
+ghost use Rattle.rsp_line.specs.Names.{number_of, name_number, name_of, length_of};
 
 use same::same;
 
-fn if_same(word: &[u8], s: &[u8], number: u64, other: u64) -> u64
-    ensures { result ≡ cond (same word.now s.now) number other }
-{
-    if same(word, s) {
-        return number;
+// Each with the number that stands for it in the definitions.
+#[derive(Clone, Copy, PartialEq, Eq)]
+pub enum Name {
+    EntropyInput = 1,
+    Nonce = 2,
+    PersonalizationString = 3,
+    AdditionalInput = 4,
+    ReturnedBits = 5,
+    EntropyInputReseed = 6,
+    AdditionalInputReseed = 7,
+    EntropyInputPR = 8,
+    Count = 9,
+}
+
+impl Name {
+    pub fn number(self) -> u8
+        ensures { result ≡ number_of self }
+    {
+        self as u8
     }
-    other
 }
 
-// A name with the space behind it; from the last to the first.
-pub fn name_of(s: &[u8]) -> u64
-    ensures { result ≡ name_of s.now }
+// A field's name, with the space behind it. By tests: a match on byte strings is a case for each character.
+#[tactic(auto, unfolding(crate::specs::Names::name_of, text::specs::Ascii::ascii))]
+pub fn name_of(s: &[u8]) -> Option<Name>
+    ensures { name_number result ≡ name_of s.now }
 {
-    let count = if_same(b"COUNT ", s, 9, 0);
-    let fresh_entropy = if_same(b"EntropyInputPR ", s, 8, count);
-    let reseed_additional = if_same(b"AdditionalInputReseed ", s, 7, fresh_entropy);
-    let reseed_entropy = if_same(b"EntropyInputReseed ", s, 6, reseed_additional);
-    let returned = if_same(b"ReturnedBits ", s, 5, reseed_entropy);
-    let additional = if_same(b"AdditionalInput ", s, 4, returned);
-    let personalization = if_same(b"PersonalizationString ", s, 3, additional);
-    let nonce = if_same(b"Nonce ", s, 2, personalization);
-    if_same(b"EntropyInput ", s, 1, nonce)
+    if same(b"EntropyInput ", s) {
+        Some(Name::EntropyInput)
+    } else if same(b"Nonce ", s) {
+        Some(Name::Nonce)
+    } else if same(b"PersonalizationString ", s) {
+        Some(Name::PersonalizationString)
+    } else if same(b"AdditionalInput ", s) {
+        Some(Name::AdditionalInput)
+    } else if same(b"ReturnedBits ", s) {
+        Some(Name::ReturnedBits)
+    } else if same(b"EntropyInputReseed ", s) {
+        Some(Name::EntropyInputReseed)
+    } else if same(b"AdditionalInputReseed ", s) {
+        Some(Name::AdditionalInputReseed)
+    } else if same(b"EntropyInputPR ", s) {
+        Some(Name::EntropyInputPR)
+    } else if same(b"COUNT ", s) {
+        Some(Name::Count)
+    } else {
+        None
+    }
 }
 
-pub fn length_of(s: &[u8]) -> u64
-    ensures { result ≡ length_of s.now }
+// The field whose length in bits a heading of this name gives.
+#[tactic(auto, unfolding(crate::specs::Names::length_of, text::specs::Ascii::ascii))]
+pub fn length_of(s: &[u8]) -> Option<Name>
+    ensures { name_number result ≡ length_of s.now }
 {
-    let returned = if_same(b"ReturnedBitsLen ", s, 5, 0);
-    let additional = if_same(b"AdditionalInputLen ", s, 4, returned);
-    let personalization = if_same(b"PersonalizationStringLen ", s, 3, additional);
-    let nonce = if_same(b"NonceLen ", s, 2, personalization);
-    if_same(b"EntropyInputLen ", s, 1, nonce)
+    if same(b"EntropyInputLen ", s) {
+        Some(Name::EntropyInput)
+    } else if same(b"NonceLen ", s) {
+        Some(Name::Nonce)
+    } else if same(b"PersonalizationStringLen ", s) {
+        Some(Name::PersonalizationString)
+    } else if same(b"AdditionalInputLen ", s) {
+        Some(Name::AdditionalInput)
+    } else if same(b"ReturnedBitsLen ", s) {
+        Some(Name::ReturnedBits)
+    } else {
+        None
+    }
 }

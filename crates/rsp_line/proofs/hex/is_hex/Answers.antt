@@ -1,15 +1,22 @@
--- All so far, and all the rest.
-use Rattle.std.proofs.Common.{refl}
-use Rattle.rsp_line.specs.Hex.{is_hex}
-use Rattle.rsp_line.proofs.Digits.{hex-more, hex-end}
+-- A test of each character.
+use Rattle.std.proofs.Common.{◌≡◌, true, ltb, ◌&&◌, fold, rules, tests, ◌∙◌}
+use Rattle.std.proofs.lemmas.Iterator.{YieldsList-from_slice}
+use Rattle.std.proofs.lemmas.Iterator.Consumers.{fold_from_yields_List}
+use borrow.Author.Tests.{eq-eqb, ne_eqb}
+use Rattle.rsp_line.specs.Hex.{is_hex, digit_of}
+use Rattle.rsp_line.proofs.Digits.{all_digits-fold}
 use Rattle.rsp_line.proofs.hex.is_hex.Goals as goal
 
-pub loop-i-init : goal.loop-i-init
+pub returns-then-s-eq0 : goal.returns-then-s-eq0
 unfolding is_hex
-loop-i-init c = refl
+returns-then-s-eq0 c =
+    let s = c.args.s.now in
+    let all : c.fold.result ≡ fold (λ b x. b && ltb (digit_of x) 16) true s =
+    fold_from_yields_List _ (λ b x. b && ltb (digit_of x) 16) true c.fold.result c.fold.ensures.ran (YieldsList-from_slice s cc)
+    (λ a x b q k. search (rules, tests))
+    in
+    all ∙ rw (eq-eqb _ 0 c.if-s-eq0.true) (all_digits-fold true s)
 
-pub loop-i-preserved : goal.loop-i-preserved
-loop-i-preserved c = hex-more _ c.loop-i.i _ c.loop-i.all c.loop-i-test.true c.digit_of.ensures c.loop-i.invariant
-
-pub returns : goal.returns
-returns c = hex-end _ c.loop-i.i _ c.loop-i-test.false c.loop-i.invariant
+pub returns-else-s-eq0 : goal.returns-else-s-eq0
+unfolding is_hex
+returns-else-s-eq0 c = rw (ne_eqb _ 0 c.if-s-eq0.false)

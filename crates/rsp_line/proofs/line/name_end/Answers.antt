@@ -1,12 +1,12 @@
 -- The first sign ends the name, or the line does.
-use Rattle.rsp_line.proofs.Lines.{name-ends, name-goes_on, no_sign}
+use Rattle.std.proofs.Common.{eqb, rules, tests}
+use Rattle.std.proofs.lemmas.Iterator.{YieldsList-from_slice}
+use Rattle.std.proofs.lemmas.Iterator.Search.{position_from_yields_List}
+use Rattle.rsp_line.proofs.Lines.{name_end_found}
 use Rattle.rsp_line.proofs.line.name_end.Goals as goal
 
-pub returns-then-s-n-eq61 : goal.returns-then-s-n-eq61
-returns-then-s-n-eq61 c = name-ends _ c.loop-n.n c.loop-n.invariant c.loop-n-test.true c.if-s-n-eq61.true
-
-pub loop-n-preserved : goal.loop-n-preserved
-loop-n-preserved c = name-goes_on _ c.loop-n.n c.loop-n.invariant c.loop-n-test.true c.if-s-n-eq61.false
-
-pub returns : goal.returns
-returns c = no_sign _ c.loop-n.n c.loop-n.invariant c.loop-n-test.false
+pub returns-clause-is : goal.returns-clause-is
+returns-clause-is c =
+    name_end_found c.args.s.now c.position.result
+    (position_from_yields_List (λ x. eqb x 61) _ _ _ c.position.ensures.ran (YieldsList-from_slice c.args.s.now cc)
+    (λ x b q k. search (rules, tests)))
