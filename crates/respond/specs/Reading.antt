@@ -1,30 +1,30 @@
 -- What holds while a file is read.
-use Rattle.std.specs.Prelude.{ℕ, ◌^◌, ◌≤◌, ◌≡◌, false, List, ◌++◌}
+use Rattle.std.specs.Prelude.{ℕ, ◌^◌, ◌≤◌, ◌≡◌, List, ◌++◌}
 use Rattle.file_lines.specs.Held.{Holds}
-use Rattle.responses.specs.Report.{Now}
-use Rattle.responses.specs.Pieces.{Inside, NowIn, left}
-use Rattle.responses.specs.declared.Progress.{Progress}
+use Rattle.rsp_case.specs.Reading.{State}
+use Rattle.responses.specs.Report.{reading}
+use Rattle.responses.specs.Pieces.{InStore, left}
+use Rattle.responses.specs.declared.Reader.{Reader}
 
 abbrev pub window_size : ℕ
 window_size = 65536
 
--- between two pieces: the places are inside the store and the line, lines can be counted on, and all were read
-abbrev pub Going : Progress → Type 0
-Going p = Inside p × (p.lines ≤ 2 ^ 63) × (p.stopped ≡ false)
+-- between two pieces lines can be counted on
+abbrev pub Going : Reader → Type 0
+Going r = r.progress.lines ≤ 2 ^ 63
 
--- at a place of the bytes that were read: what was written and the report on the rest are the report on all, whatever the rest is
-pub record Onward (mechanism : ℕ) (was : Progress) (before : Now) (line bytes : List ℕ) (at : ℕ) (p : Progress) (store buffer : List ℕ)
-    : Type 0 where
+-- where some of the bytes that were read are left: what was written and the report on them and the rest are the report on all, whatever the
+-- rest is
+pub record Onward (was : Reader) (before : State) (line bytes more : List ℕ) (r : Reader) : Type 0 where
   pub written : List ℕ
-  pub now : Now
+  pub now : State
   pub begun : List ℕ
-  pub state : NowIn p store now
-  pub held : Holds buffer p.held begun
-  pub is : (rest : List ℕ)
-      → left mechanism was before line bytes 0 rest ≡ written ++ left mechanism p now begun bytes at rest
+  pub state : InStore r.progress r.store now
+  pub held : Holds r.line r.progress.held begun
+  pub is : (rest : List ℕ) → left was (reading before) line bytes rest ≡ written ++ left r (reading now) begun more rest
 
 -- whatever was read before
-abbrev pub GoesOn : (mechanism : ℕ) → Progress → (store buffer bytes : List ℕ) (at : ℕ) → Progress → (store' buffer' : List ℕ) → Type 0
-GoesOn mechanism was store buffer bytes at p store' buffer' =
-    (before : Now) (line : List ℕ) → NowIn was store before → Holds buffer was.held line
-    → Onward mechanism was before line bytes at p store' buffer'
+abbrev pub GoesOn : Reader → (bytes more : List ℕ) → Reader → Type 0
+GoesOn was bytes more r =
+    (before : State) (line : List ℕ) → InStore was.progress was.store before → Holds was.line was.progress.held line
+    → Onward was before line bytes more r

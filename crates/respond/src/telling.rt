@@ -1,42 +1,58 @@
-// Why nothing more is run: a line on standard error. What can't be told there is told nowhere.
-use std::io::{self, Write};
+// Why nothing more is run, and the line on standard error that says so. What can't be told there is told nowhere.
+use std::io::Write;
+use std::{fmt, io};
 
-fn tell(rt: &HostRuntime, text: &[u8]) {
+// What is wrong with a file.
+#[derive(Clone, Copy)]
+pub enum Fault {
+    NotUtf8,
+    Failed(io::Error),
+    UnreadLine,
+    TooManyLines,
+    TooLong,
+}
+
+impl fmt::Display for Fault {
+    fn fmt<W: fmt::Write>(&self, f: &mut fmt::Formatter<W>) -> fmt::Result {
+        match self {
+            Fault::NotUtf8 => write!(f, "the name is not UTF-8"),
+            Fault::Failed(why) => write!(f, "{why}"),
+            Fault::UnreadLine => write!(f, "this line can't be read"),
+            Fault::TooManyLines => write!(f, "too many lines"),
+            Fault::TooLong => write!(f, "too long"),
+        }
+    }
+}
+
+// A file has its name beside what is wrong with it.
+#[derive(Clone, Copy)]
+pub enum Stop<'a> {
+    NoMechanism,
+    NoMechanismBefore(&'a [u8]),
+    File(&'a [u8], Fault),
+    Unwritten(io::Error),
+}
+
+const MECHANISMS: &str = "1 is HMAC_DRBG, 2 is Hash_DRBG";
+
+fn put(rt: &HostRuntime, text: &[u8]) {
     rt.stderr().write_all(text).ok();
 }
 
-pub fn no_mechanism(rt: &HostRuntime) {
-    tell(
-        rt,
-        b"respond: no mechanism: 1 is HMAC_DRBG, 2 is Hash_DRBG\n",
-    );
-}
-
-pub fn no_mechanism_before(rt: &HostRuntime, name: &[u8]) {
-    tell(rt, b"respond: no mechanism before ");
-    tell(rt, name);
-    tell(rt, b": 1 is HMAC_DRBG, 2 is Hash_DRBG\n");
-}
-
-fn tell_why(rt: &HostRuntime, why: io::Error) {
+fn put_why(rt: &HostRuntime, what: &[u8], why: impl fmt::Display + Drop) {
+    put(rt, what);
     eprintln!(rt; ": {why}").ok();
 }
 
-// The file can't be opened or read.
-pub fn failed(rt: &HostRuntime, name: &[u8], why: io::Error) {
-    tell(rt, b"respond: ");
-    tell(rt, name);
-    tell_why(rt, why);
-}
-
-pub fn unwritten(rt: &HostRuntime, why: io::Error) {
-    tell(rt, b"respond: standard output can't be written");
-    tell_why(rt, why);
-}
-
-// Of a file that was read so far.
-pub fn of_file(rt: &HostRuntime, name: &[u8], why: &[u8]) {
-    tell(rt, b"respond: ");
-    tell(rt, name);
-    tell(rt, why);
+pub fn tell(rt: &HostRuntime, stop: Stop) {
+    put(rt, b"respond: ");
+    match stop {
+        Stop::NoMechanism => put_why(rt, b"no mechanism", MECHANISMS),
+        Stop::NoMechanismBefore(name) => {
+            put(rt, b"no mechanism before ");
+            put_why(rt, name, MECHANISMS);
+        }
+        Stop::File(name, fault) => put_why(rt, name, fault),
+        Stop::Unwritten(why) => put_why(rt, b"standard output can't be written", why),
+    }
 }

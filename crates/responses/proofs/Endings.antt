@@ -1,21 +1,16 @@
 -- The end of a file, behind a line's end or inside a line. Assumes nothing.
-use Prim.Native.Nat.{ℕ, ◌+◌, ◌≤◌, ◌<◌}
-use mathlib.Core.Path.{◌≡◌, refl, sym, ap, ap₂, subst, ◌∙◌}
-use mathlib.Core.Bool.{true, false, false≢true}
-use mathlib.Core.List.{List, [], ◌∷◌, ◌++◌, append-nil}
+use Rattle.std.proofs.Common.{ℕ, ◌+◌, ◌≤◌, ◌<◌, ◌≡◌, List, [], ◌∷◌, ◌++◌, length, take, refl, sym, ap, ap₂, subst, ◌∙◌}
+use Rattle.std.proofs.Common.{append-nil, arith, Result, Ok, Err}
+use Rattle.std.proofs.Math.Seq.{length-take-le}
 use native.Mathlib.Decide.{dec_lt}
-use native.Mathlib.Omega.{arith}
-use lib.ListN.{length, take}
-use lib.Seq.{length-take-le}
-use Rattle.text.specs.Writing.{Appends}
+use Rattle.text.specs.Writing.{Written, ◌then◌, none_of}
 use Rattle.file_lines.specs.Lines.{unended, lines_from}
 use Rattle.file_lines.specs.Held.{line_size, Holds}
 use Rattle.rsp_line.specs.Lines.{says}
 use Rattle.rsp_case.specs.Reading.{State, takes}
 use Rattle.responses.specs.Report.{Now, reading, stopped, after, lacking, end_on, line_for, report}
-use Rattle.responses.specs.Pieces.{NowIn, Tells, Ends}
-use Rattle.responses.specs.declared.Progress.{Progress}
-use Rattle.responses.specs.declared.Reported.{Reported}
+use Rattle.responses.specs.Pieces.{InStore, NowIn, Told, Ends}
+use Rattle.responses.specs.declared.Reader.{Reader}
 use Rattle.responses.proofs.Windows.{not_less, says-whole}
 
 -- nothing was held, so no line has begun
@@ -37,54 +32,62 @@ one_line : (line : List ℕ) → 0 < length line → unended line ≡ line ∷ [
 one_line [] h = absurd (omega (arith, h))
 one_line (c ∷ line) h = refl
 
-module _ (mechanism : ℕ) (was : Progress) (store buffer : List ℕ) (going : was.stopped ≡ false) where
-  -- behind a line's end
-  pub ends-none : {old text : List ℕ} {end : ℕ} → was.held ≡ 0 → Appends old 0 (lacking was.lines was.point) end text
-      → Ends mechanism was store buffer text end
-  unfolding lines_from report
-  ends-none none wrote stopped line here begun = absurd (false≢true (sym going ∙ here))
-  ends-none none wrote (reading s) line here begun =
-      ap (λ l. report mechanism was.lines (unended l) (reading s)) (sym (none-begun buffer line none begun)) ∙
-      ap (lacking was.lines) (sym here.point) ∙
-      sym wrote.is
+-- behind the line that is held
+abbrev behind : Reader → State → Now
+behind was s = after (takes s (says (take was.progress.held was.line)))
 
-  module _ (size : length buffer ≡ line_size) (few : was.held ≤ line_size) (some : was.held ≡ 0 → ⊥) {old text : List ℕ} {store' : List ℕ}
-      (r : Reported) (lines : r.progress.lines ≡ was.lines + 1)
-      (tells : Tells mechanism was store (take was.held buffer) old 0 r store' text) where
+module _ (was : Reader) (old : Written) {room : ℕ} (clear : old ≡ none_of room) where
+  -- behind a line's end
+  pub ends-none : {text : Written} → was.progress.held ≡ 0
+      → text ≡ old then lacking was.progress.lines was.progress.point → Ends was text.text
+  unfolding lines_from report
+  ends-none none wrote s line here begun =
+      ap (λ l. report was.mechanism was.progress.lines (unended l) (reading s)) (sym (none-begun was.line line none begun)) ∙
+      ap (lacking was.progress.lines) (sym here.point) ∙
+      sym (ap (λ t. t.text) wrote ∙ ap (λ o. o.text ++ lacking was.progress.lines was.progress.point) clear)
+
+  module _ (size : length was.line ≡ line_size) (few : was.progress.held ≤ line_size) (some : was.progress.held ≡ 0 → ⊥)
+      (T E : Type 0) (text : Written) (r : Reader) where
+    abbrev pub Took : Result T E → Type 0
+    Took read = (s : State) → InStore was.progress was.store s
+        → Told was.mechanism (was.progress.lines + 1) s (take was.progress.held was.line) old read r text
+
     -- inside a line: what it reports, and what the file's end does then
-    last_line : (s : State) (line : List ℕ) → NowIn was store (reading s) → Holds buffer was.held line
-        → report mechanism was.lines (lines_from line []) (reading s)
-        ≡ take r.end text ++ end_on (was.lines + 1) (after (takes s (says (take was.held buffer))))
+    last_line : (read : Result T E) → Took read → (s : State) (line : List ℕ) → InStore was.progress was.store s
+        → Holds was.line was.progress.held line
+        → report was.mechanism was.progress.lines (lines_from line []) (reading s)
+        ≡ text.text ++ end_on (was.progress.lines + 1) (behind was s)
     unfolding lines_from report
-    last_line s line here begun =
-        ap (λ l. report mechanism was.lines l (reading s)) (one_line line (begun-some buffer line was.held size few some begun)) ∙
+    last_line read tells s line here begun =
+        let said = line_for was.mechanism (was.progress.lines + 1) (takes s (says (take was.progress.held was.line))) in
+        ap (λ l. report was.mechanism was.progress.lines l (reading s))
+        (one_line line (begun-some was.line line was.progress.held size few some begun)) ∙
         ap
-        (λ x. line_for mechanism (was.lines + 1) (takes s x) ++ end_on (was.lines + 1) (after (takes s x)))
-        (sym (says-whole buffer was.held line size few begun)) ∙
-        ap (λ x. x ++ end_on (was.lines + 1) (after (takes s (says (take was.held buffer))))) (sym (tells s here).wrote.is)
+        (λ x. line_for was.mechanism (was.progress.lines + 1) (takes s x) ++ end_on (was.progress.lines + 1) (after (takes s x)))
+        (sym (says-whole was.line was.progress.held line size few begun)) ∙
+        ap (λ x. x ++ end_on (was.progress.lines + 1) (behind was s))
+        (sym (ap (λ t. t.text) (tells s here).wrote ∙ ap (λ (o : Written). o.text ++ said) clear))
 
     -- it can't be read
-    pub ends-unread : r.progress.stopped ≡ true → Ends mechanism was store buffer text r.end
-    ends-unread stops stopped line here begun = absurd (false≢true (sym going ∙ here))
-    ends-unread stops (reading s) line here begun =
-        last_line s line here begun ∙
-        ap (λ l. take r.end text ++ l) (nothing-more (after (takes s (says (take was.held buffer)))) (tells s here).now) ∙
-        append-nil (take r.end text)
-      where
-        nothing-more : (now : Now) → NowIn r.progress store' now → end_on (was.lines + 1) now ≡ []
-        nothing-more stopped h = refl
-        nothing-more (reading s) h = absurd (false≢true (sym h.going ∙ stops))
+    nothing-more : (e : E) (now : Now) → NowIn {T = T} (Err e) r now → end_on (was.progress.lines + 1) now ≡ []
+    nothing-more e stopped h = refl
+    nothing-more e (reading s) h = absurd h
+
+    pub ends-unread : (e : E) → Took (Err e) → Ends was text.text
+    ends-unread e tells s line here begun =
+        last_line (Err e) tells s line here begun ∙
+        ap (λ l. text.text ++ l) (nothing-more e (behind was s) (tells s here).now) ∙
+        append-nil text.text
 
     -- it can
-    pub ends_read : {text' : List ℕ} {end : ℕ} → r.progress.stopped ≡ false
-        → Appends text r.end (lacking r.progress.lines r.progress.point) end text' → Ends mechanism was store buffer text' end
-    ends_read goes wrote stopped line here begun = absurd (false≢true (sym going ∙ here))
-    ends_read goes wrote (reading s) line here begun =
-        last_line s line here begun ∙
-        ap (λ l. take r.end text ++ l) (then (after (takes s (says (take was.held buffer)))) (tells s here).now) ∙
-        sym wrote.is
-      where
-        then : (now : Now) → NowIn r.progress store' now
-            → end_on (was.lines + 1) now ≡ lacking r.progress.lines r.progress.point
-        then stopped h = absurd (false≢true (sym goes ∙ h))
-        then (reading s) h = ap₂ lacking (sym lines) (sym h.point)
+    going-on : (x : T) → r.progress.lines ≡ was.progress.lines + 1 → (now : Now) → NowIn {E = E} (Ok x) r now
+        → end_on (was.progress.lines + 1) now ≡ lacking r.progress.lines r.progress.point
+    going-on x lines stopped h = absurd h
+    going-on x lines (reading s) h = ap₂ lacking (sym lines) (sym h.point)
+
+    pub ends_read : (x : T) {text' : Written} → Took (Ok x) → r.progress.lines ≡ was.progress.lines + 1
+        → text' ≡ text then lacking r.progress.lines r.progress.point → Ends was text'.text
+    ends_read x tells lines wrote s line here begun =
+        last_line (Ok x) tells s line here begun ∙
+        ap (λ l. text.text ++ l) (going-on x lines (behind was s) (tells s here).now) ∙
+        sym (ap (λ t. t.text) wrote)

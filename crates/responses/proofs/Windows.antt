@@ -1,24 +1,24 @@
 -- A line that the window ends in, and one that ends in it: nothing of the report is lost, whatever the rest of the file is.
 -- Assumes nothing.
-use Prim.Native.Nat.{ℕ, ◌+◌, ◌-◌, ◌≤◌, ◌<◌}
-use mathlib.Core.Path.{◌≡◌, refl, sym, ap, ap₂, subst, ◌∙◌}
-use mathlib.Core.Bool.{Bool, true, false, cond, false≢true}
-use mathlib.Core.List.{List, [], ◌++◌, append_assoc}
+use Rattle.std.proofs.Common.{ℕ, ◌+◌, ◌-◌, ◌≤◌, ◌<◌, ◌≡◌, Bool, true, false, cond, List, [], ◌++◌, length, take, drop, get_or}
+use Rattle.std.proofs.Common.{refl, sym, ap, ap₂, subst, ◌∙◌, append_assoc, arith, Bor, Result, Ok, Err, length-drop}
+use Rattle.std.proofs.Math.Seq.{take-take, length-take-le, drop-drop}
+use Rattle.std.proofs.lemmas.Bool.{false≢true}
+use Rattle.std.proofs.Math.Dec.{eqb}
+use Rattle.std.specs.Result.{is_ok}
 use native.Mathlib.Decide.{dec_lt}
-use native.Mathlib.Omega.{arith}
 use borrow.Author.Tests.{lt-ltb}
-use lib.Dec.{eqb}
-use lib.ListN.{length, take, drop, get_or}
-use lib.Seq.{take-take, length-take-le}
+use Rattle.text.specs.Writing.{Written}
 use Rattle.file_lines.specs.Lines.{text_end, ended, lines_from}
 use Rattle.file_lines.specs.Held.{line_size, Holds, Went}
 use Rattle.rsp_line.specs.Lines.{says, unread}
-use Rattle.rsp_case.specs.Reading.{takes}
-use Rattle.responses.specs.Report.{reading, stopped, after, line_for, report}
-use Rattle.responses.specs.Pieces.{Tells, Reports}
-use Rattle.responses.specs.declared.Progress.{Progress}
-use Rattle.responses.specs.declared.Reported.{Reported}
+use Rattle.rsp_case.specs.Reading.{State, takes}
+use Rattle.responses.specs.Sizes.{store_size}
+use Rattle.responses.specs.Report.{Now, reading, stopped, after, line_for, report}
+use Rattle.responses.specs.Pieces.{InStore, NowIn, Told, left, Reports, IsLeft}
+use Rattle.responses.specs.declared.Reader.{Reader}
 use Rattle.responses.specs.declared.Piece.{Piece}
+use Rattle.responses.specs.declared.Unread.{Unread}
 
 pub not_less : (a b : ℕ) → (a < b → ⊥) → b ≤ a
 not_less a b h = omega (arith, h)
@@ -80,74 +80,92 @@ none-held : (buffer : List ℕ) {n : ℕ} → n ≡ 0 → Holds buffer n []
 none-held buffer none =
     subst (λ k. Holds buffer k []) (sym none) (record { short = λ h. refl; long = λ h. absurd (omega (arith, h)) })
 
-module _ (mechanism : ℕ) (was : Progress) (window : List ℕ) (from : ℕ) (old : List ℕ) (at : ℕ) where
+module _ (was : Reader) (window : List ℕ) where
   -- the window ends: the reading is where it was
-  pub behind_window : {store buffer buffer' : List ℕ} {next held : ℕ} → was.stopped ≡ false
-      → ((l : List ℕ) → Holds buffer was.held l → Went window from l next false buffer' held)
-      → Reports mechanism was store buffer window from old at
+  pub behind_window : (old buffer : List ℕ) (held next : ℕ) (inside : (was.progress.used ≤ store_size) × (held ≤ line_size))
+      (rest : Bor (List ℕ)) → rest.now ≡ drop next window
+      → ((l : List ℕ) → Holds was.line was.progress.held l → Went window 0 l next false buffer held)
+      → Reports was window old (record { rest = rest; read = Ok tt })
       (record {
-        progress = record { point = was.point; used = was.used; lines = was.lines; held = held; stopped = false };
-        next = next;
-        end = at;
+        mechanism = was.mechanism;
+        progress = record { point = was.progress.point; used = was.progress.used; lines = was.progress.lines; held = held };
+        line = buffer;
+        store = was.store;
+        inside = inside;
       })
-      store buffer' old
-  behind_window going went (reading s) line here begun =
+      old
+  behind_window old buffer held next inside rest rest-is went s line here begun =
       let w = went line begun in
       record {
         now = reading s;
         begun = w.now;
-        state = record { going = refl; point = here.point; fields = here.fields };
+        state = record { point = here.point; fields = here.fields };
         held = w.holds;
-        is = λ rest. ap (λ l. take at old ++ report mechanism was.lines l (reading s)) (w.onward rest);
+        is =
+            λ more.
+            ap (λ l. old ++ report was.mechanism was.progress.lines l (reading s))
+            (w.onward more ∙ ap (λ x. lines_from w.now (x ++ more)) (sym rest-is));
       }
-  behind_window going went stopped line here begun = absurd (false≢true (sym going ∙ here))
 
   -- the line ends
-  module _ {store store' buffer buffer' text : List ℕ} {next held : ℕ} {l' : List ℕ} (r : Reported) (going : was.stopped ≡ false)
-      (went : (l : List ℕ) → Holds buffer was.held l → Went window from l next true buffer' held)
-      (same : (l : List ℕ) → Holds buffer' held l → says l' ≡ says (ended l))
-      (lines : r.progress.lines ≡ was.lines + 1) (none : r.progress.held ≡ 0)
-      (tells : Tells mechanism was store l' old at r store' text) where
-    pub behind-line :
-        Reports mechanism was store buffer window from old at
-        (record { progress = r.progress; next = next; end = r.end })
-        store' buffer' text
-    unfolding report
-    behind-line (reading s) line here begun =
-        let w = went line begun in
-        let told = tells s here in
-        let t = takes s (says l') in
-        let said : says (ended w.now) ≡ says l' = sym (same w.now w.holds) in
-        record {
-          now = after t;
-          begun = [];
-          state = told.now;
-          held = none-held buffer' none;
-          is =
-              λ rest.
-              let more = lines_from [] (drop next window ++ rest) in
-              ap (λ x. take at old ++ report mechanism was.lines x (reading s)) (w.onward rest) ∙
-              ap
-              (λ x. take at old ++
-              (line_for mechanism (was.lines + 1) (takes s x) ++ report mechanism (was.lines + 1) more (after (takes s x))))
-              said ∙
-              sym (append_assoc (take at old) (line_for mechanism (was.lines + 1) t) (report mechanism (was.lines + 1) more (after t))) ∙
-              ap₂ (λ x n. x ++ report mechanism n more (after t)) (sym told.wrote.is) (sym lines);
-        }
-    behind-line stopped line here begun = absurd (false≢true (sym going ∙ here))
+  pub behind-line : (old text : Written) (buffer : List ℕ) (held next : ℕ) (r : Reader) (read : Result (Unit {0}) Unread) (l' : List ℕ)
+      (rest : Bor (List ℕ)) → rest.now ≡ drop next window
+      → ((l : List ℕ) → Holds was.line was.progress.held l → Went window 0 l next true buffer held)
+      → ((l : List ℕ) → Holds buffer held l → says l' ≡ says (ended l))
+      → r.mechanism ≡ was.mechanism → r.progress.lines ≡ was.progress.lines + 1 → r.progress.held ≡ 0
+      → ((s : State) → InStore was.progress was.store s → Told was.mechanism (was.progress.lines + 1) s l' old read r text)
+      → Reports was window old.text (record { rest = rest; read = read }) r text.text
+  unfolding report
+  behind-line old text buffer held next r read l' rest rest-is went same mechanism lines none tells s line here begun =
+      let w = went line begun in
+      let told = tells s here in
+      let n = was.progress.lines + 1 in
+      let t = takes s (says l') in
+      let said : says (ended w.now) ≡ says l' = sym (same w.now w.holds) in
+      record {
+        now = after t;
+        begun = [];
+        state = told.now;
+        held = none-held r.line none;
+        is =
+            λ more.
+            let left = lines_from [] (drop next window ++ more) in
+            ap (λ x. old.text ++ report was.mechanism was.progress.lines x (reading s)) (w.onward more) ∙
+            ap (λ x. old.text ++ (line_for was.mechanism n (takes s x) ++ report was.mechanism n left (after (takes s x)))) said ∙
+            sym (append_assoc old.text (line_for was.mechanism n t) (report was.mechanism n left (after t))) ∙
+            ap₂ (λ x m. x ++ report m n left (after t)) (sym (ap (λ x. x.text) told.wrote)) (sym mechanism) ∙
+            ap₂ (λ k x. text.text ++ report r.mechanism k (lines_from [] (x ++ more)) (after t)) (sym lines) (sym rest-is);
+      }
 
--- pieces compose
-pub reports_none : (mechanism : ℕ) (was : Progress) (store buffer window : List ℕ) (from : ℕ) (text : List ℕ) (end : ℕ)
-    → Reports mechanism was store buffer window from text end (record { progress = was; next = from; end = end }) store buffer text
-reports_none mechanism was store buffer window from text end before line here begun =
-    record { now = before; begun = line; state = here; held = begun; is = λ rest. refl }
+-- pieces compose, as long as each line could be read
+pub reports_none : (was : Reader) (window : Bor (List ℕ)) → Reports was window.now [] (record { rest = window; read = Ok tt }) was []
+reports_none was window s line here begun =
+    record { now = reading s; begun = line; state = here; held = begun; is = λ rest. refl }
 
-pub reports_then : {mechanism : ℕ} {was : Progress} {store buffer window : List ℕ} {from : ℕ} {old : List ℕ} {end : ℕ} {p q : Piece}
-    {store₁ buffer₁ text₁ store₂ buffer₂ text₂ : List ℕ}
-    → Reports mechanism was store buffer window from old end p store₁ buffer₁ text₁
-    → Reports mechanism p.progress store₁ buffer₁ window p.next text₁ p.end q store₂ buffer₂ text₂
-    → Reports mechanism was store buffer window from old end q store₂ buffer₂ text₂
-reports_then first second before line here begun =
-    let a = first before line here begun in
-    let b = second a.now a.begun a.state a.held in
-    record { now = b.now; begun = b.begun; state = b.state; held = b.held; is = λ rest. a.is rest ∙ b.is rest }
+reading_on : (read : Result (Unit {0}) Unread) (r : Reader) (now : Now) → is_ok read ≡ true → NowIn read r now
+    → (s : State) × (now ≡ reading s) × InStore r.progress r.store s
+reading_on (Ok x) r (reading s) could here = (s, refl, here)
+reading_on (Ok x) r stopped could here = absurd here
+reading_on (Err e) r now could here = absurd (false≢true could)
+
+pub reports_then : {was mid r : Reader} {window old text text' : List ℕ} {p q : Piece} → is_ok p.read ≡ true
+    → Reports was window old p mid text → Reports mid p.rest.now text q r text' → Reports was window old q r text'
+reports_then {was} {mid} {r} {window} {old} {text} {text'} {p} {q} could first second s line here begun =
+    let a = first s line here begun in
+    let on = reading_on p.read mid a.now could a.state in
+    let b = second on.0 a.begun on.2 a.held in
+    record {
+      now = b.now;
+      begun = b.begun;
+      state = b.state;
+      held = b.held;
+      is = λ more. a.is more ∙ ap (λ n. text ++ left mid n a.begun p.rest.now more) on.1 ∙ b.is more;
+    }
+
+-- what is left of what is left
+pub left_then : {window rest last : List ℕ} → IsLeft window rest → IsLeft rest last → IsLeft window last
+left_then {window} {rest} {last} first second = (
+  first.0 + second.0,
+  omega (arith, second.1, ap length first.2, length-drop first.0 window, first.1),
+  second.2 ∙ ap (drop second.0) first.2 ∙ drop-drop second.0 first.0 window,
+)

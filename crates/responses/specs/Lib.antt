@@ -1,3 +1,4 @@
 -- What is reported on a response file.
+pub mod Sizes
 pub mod Report
 pub mod Pieces

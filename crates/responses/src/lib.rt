@@ -2,14 +2,14 @@
 
 #![tactic(auto)]
 
-ghost use Rattle.std.specs.Prelude.{◌≡◌, false, ◌+◌, ◌^◌, ◌≤◌, ◌<◌, length};
-ghost use Rattle.text.specs.Writing.{Appends};
+ghost use Rattle.std.specs.Prelude.{◌≡◌, ◌≤◌};
 ghost use Rattle.file_lines.specs.Held.{line_size};
-ghost use Rattle.responses.specs.Pieces.{store_size, room_size, text_size, started, Inside, behind, Runs, Tells, Reports, Ends};
-ghost use Rattle.responses.specs.Report.{lacking};
+ghost use Rattle.responses.specs.Sizes.{store_size};
 
+use file_lines::LINE;
 use rsp_case::point::{Next, Point};
-use rsp_case::{heads, store};
+use rsp_case::store;
+use text::Text;
 
 pub mod words;
 
@@ -18,244 +18,201 @@ const ENOUGH: usize = 4096;
 
 pub const TEXT: usize = ENOUGH + 40;
 
-pub const STORE: usize = 65536;
+const STORE: usize = 65536;
 
 // How far the reading of a file has come: the point in the case at hand, how many bytes of the store its fields take, how many lines
-// were read, how many characters of the next one are held, and whether a line could not be read.
+// were read, and how many characters of the next one are held.
 #[derive(Clone, Copy)]
 pub struct Progress {
     pub point: Point,
     pub used: usize,
     pub lines: u64,
     pub held: usize,
-    pub stopped: bool,
 }
 
-// Behind a line: where its report ends in the text.
-#[derive(Clone, Copy)]
-pub struct Reported {
-    pub progress: Progress,
-    pub end: usize,
-}
-
-// Behind a piece of the window: where the window is read on, and where the report ends.
-#[derive(Clone, Copy)]
-pub struct Piece {
-    pub progress: Progress,
-    pub next: usize,
-    pub end: usize,
-}
-
-// Behind a file: where the report ends, and whether a line could not be read.
-#[derive(Clone, Copy)]
-pub struct Ended {
-    pub end: usize,
-    pub stopped: bool,
-}
-
-// A file begins.
-pub fn start() -> Progress
-    ensures { result ≡ started }
-{
-    let heads = heads::none();
-    let point = Point {
-        heads,
-        last: 0,
-        number: 0,
-    };
-    Progress {
-        point,
-        used: 0,
-        lines: 0,
-        held: 0,
-        stopped: false,
-    }
-}
-
-// Behind a line.
-fn behind(point: Point, used: usize, lines: u64, stopped: bool, end: usize) -> Reported
-    ensures { result ≡ behind point used lines stopped end }
-{
-    let progress = Progress {
-        point,
-        used,
-        lines,
-        held: 0,
-        stopped,
-    };
-    Reported { progress, end }
-}
-
-// The case in the store: its fields up to a place, and what was returned behind them.
-fn run_stored(mechanism: u64, fresh: bool, store: &[u8], end: usize, stop: usize) -> bool
-    requires { (end ≤ stop) × (stop ≤ length store.now) × (stop ≤ end + 2048) }
-    ensures { Runs mechanism fresh store.now end stop result }
-{
-    let fields = &store[..end];
-    rsp_run::passes(mechanism, fresh, fields, &store[end..stop])
-}
-
-// Takes a line, and writes what it reports.
-fn report_line(
-    mechanism: u64,
-    was: Progress,
-    line: &[u8],
-    store: &mut [u8],
-    text: &mut [u8],
-    at: usize,
-) -> Reported
-    requires used_le_store_size { (was.used ≤ store_size) × (was.lines + 1 < 2 ^ 64) × (length store.old ≡ store_size) }
-    requires room_size_in_bounds { at + room_size ≤ length text.old }
-    ensures within { Inside result.progress × (result.progress.lines ≡ was.lines + 1) × (result.progress.held ≡ 0) }
-    ensures few { result.end ≤ at + room_size }
-    ensures tells { Tells mechanism was store.old line.now text.old at result
-        store.new text.new }
-{
-    let point = was.point;
-    let lines = was.lines + 1;
-    let took = store::take_line(point, was.used, line, store);
-    let next = took.next;
-    let used = took.used;
-    match next {
-        Next::Goes(p) => behind(p, used, lines, false, at),
-        Next::Keeps(p) => behind(p, used, lines, false, at),
-        Next::Whole(p) => {
-            let heads = p.heads;
-            let good = run_stored(mechanism, heads.fresh, store, used, took.stop);
-            let end = words::passed(text, at, p.number, good);
-            behind(p, 0, lines, false, end)
-        }
-        Next::PassedOver(p) => {
-            let end = words::passed_over(text, at, p.number);
-            behind(p, used, lines, false, end)
-        }
-        Next::Unread => {
-            let end = words::unread(text, at, lines);
-            behind(point, used, lines, true, end)
-        }
-    }
-}
-
-// Holds a line's characters as far as the window goes, and takes the line where its end is seen.
-fn report_next(
-    mechanism: u64,
-    was: Progress,
-    window: &[u8],
-    from: usize,
-    line: &mut [u8],
-    store: &mut [u8],
-    text: &mut [u8],
-    at: usize,
-) -> Piece
-    requires inside { Inside was × (was.lines + 1 < 2 ^ 64) × (was.stopped ≡ false) × (from ≤ length window.now) }
-    requires line_len { (length line.old ≡ line_size) × (length store.old ≡ store_size) × (at + room_size ≤ length text.old) }
-    ensures within { Inside result.progress × (result.progress.lines ≤ was.lines + 1) × (result.next ≤ length window.now) }
-    ensures further { from < length window.now → from < result.next }
-    ensures few { result.end ≤ at + room_size }
-    ensures reports { Reports mechanism was store.old line.old window.now from
-        text.old at result store.new line.new text.new }
-{
-    let h = file_lines::hold(window, from, line, was.held);
-    let held = h.held;
-    if !h.ended {
-        let point = was.point;
-        let progress = Progress {
+impl Progress {
+    // Behind a line nothing is held of the next.
+    fn behind(point: Point, used: usize, lines: u64) -> Progress
+        ensures { result ≡ record { point = point; used = used; lines = lines; held = 0 } }
+    {
+        Progress {
             point,
-            used: was.used,
-            lines: was.lines,
-            held,
-            stopped: false,
-        };
-        return Piece {
-            progress,
-            next: h.next,
-            end: at,
-        };
-    }
-    let n = file_lines::text_end(&line[..held]);
-    let r = report_line(mechanism, was, &line[..n], store, text, at);
-    let progress = r.progress;
-    Piece {
-        progress,
-        next: h.next,
-        end: r.end,
-    }
-}
-
-// Reads the window from a place on, until the text has ENOUGH bytes or more, or a line can't be read.
-pub fn report_some(
-    mechanism: u64,
-    was: Progress,
-    window: &[u8],
-    from: usize,
-    line: &mut [u8],
-    store: &mut [u8],
-    text: &mut [u8],
-) -> Piece
-    requires inside { Inside was × (was.lines ≤ 2 ^ 63) × (was.stopped ≡ false) }
-    requires from_in_bounds { (from ≤ length window.now) × (length window.now ≤ 65536) }
-    requires line_len { (length line.old ≡ line_size) × (length store.old ≡ store_size) × (length text.old ≡ text_size) }
-    ensures within { Inside result.progress × (result.next ≤ length window.now) × (result.end ≤ text_size) }
-    ensures further { from < length window.now → from < result.next }
-    ensures reports { Reports mechanism was store.old line.old window.now from
-        text.old 0 result store.new line.new text.new }
-{
-    let mut piece = Piece {
-        progress: was,
-        next: from,
-        end: 0,
-    };
-    loop {
-        let progress = piece.progress;
-        let at = piece.next;
-        let end = piece.end;
-        if (window.len() <= at) | progress.stopped | (ENOUGH <= end) {
-            return piece;
+            used,
+            lines,
+            held: 0,
         }
-        piece = report_next(mechanism, progress, window, at, line, store, text, end);
     }
 }
 
-// The file ends behind its lines: inside a case it lacks one.
-fn report_close(was: Progress, text: &mut [u8], at: usize) -> Ended
-    requires { (was.lines + 1 < 2 ^ 64) × (at + room_size ≤ length text.old) }
-    ensures { Appends text.old at (lacking was.lines was.point) result.end text.new }
-{
-    let point = was.point;
-    if point.last == 0 {
-        return Ended {
-            end: at,
-            stopped: false,
-        };
-    }
-    let end = words::unread(text, at, was.lines + 1);
-    Ended { end, stopped: true }
+// A line can't be read.
+#[derive(Clone, Copy)]
+pub struct Unread;
+
+// Behind a piece of the report: what is left of the window, and whether each line could be read.
+#[derive(Clone, Copy)]
+pub struct Piece<'w> {
+    pub rest: &'w [u8],
+    pub read: Result<(), Unread>,
 }
 
-// The file ends: its last line may lack its end.
-pub fn report_end(
+// Reads one file. The line that has begun is held in `line`, the fields of the case at hand in `store`. The mechanism may be any number:
+// an opening refuses those that name none.
+#[derive(Drop)]
+pub struct Reader {
     mechanism: u64,
-    was: Progress,
-    line: &[u8],
-    store: &mut [u8],
-    text: &mut [u8],
-) -> Ended
-    requires inside { Inside was × (was.lines ≤ 2 ^ 63) × (was.stopped ≡ false) }
-    requires line_len { (length line.now ≡ line_size) × (length store.old ≡ store_size) × (length text.old ≡ text_size) }
-    ensures within { result.end ≤ text_size }
-    ensures ends { Ends mechanism was store.old line.now text.new result.end }
-{
-    let held = was.held;
-    if held == 0 {
-        return report_close(was, text, 0);
+    progress: Progress,
+    line: [u8; LINE],
+    store: [u8; STORE],
+    ghost inside: { (progress.used ≤ store_size) × (progress.held ≤ line_size) },
+}
+
+impl Reader {
+    ghost use Rattle.std.specs.Prelude.{◌≡◌, ◌+◌, ◌^◌, ◌≤◌, ◌<◌, [], length, take};
+    ghost use Rattle.text.specs.Writing.{◌then◌};
+    ghost use Rattle.responses.specs.Sizes.{room_size, text_size};
+    ghost use Rattle.responses.specs.Pieces.{started, Tells, Reports, Ends, IsLeft};
+    ghost use Rattle.responses.specs.Report.{lacking};
+
+    // A file begins.
+    pub fn new(mechanism: u64) -> Reader
+        ensures mechanism { result.mechanism ≡ mechanism }
+        ensures begins { result.progress ≡ started }
+    {
+        Reader {
+            mechanism,
+            progress: Progress {
+                point: Point::default(),
+                used: 0,
+                lines: 0,
+                held: 0,
+            },
+            line: [0; LINE],
+            store: [0; STORE],
+        }
     }
-    let r = report_line(mechanism, was, &line[..held], store, text, 0);
-    let last = r.progress;
-    if last.stopped {
-        return Ended {
-            end: r.end,
-            stopped: true,
+
+    // How many lines were read.
+    pub fn lines(&self) -> u64
+        ensures { result ≡ self.now.progress.lines }
+    {
+        self.progress.lines
+    }
+
+    // Takes the line of the first n characters that are held, and writes what it reports.
+    fn report_line(&mut self, n: usize, text: &mut Text<'_>) -> Result<(), Unread>
+        requires line { (n ≤ line_size) × (self.old.progress.lines + 1 < 2 ^ 64) }
+        requires room { length text.old.text + room_size ≤ text.old.size }
+        ensures same { (self.new.mechanism ≡ self.old.mechanism) × (self.new.line ≡ self.old.line) }
+        ensures within { (self.new.progress.lines ≡ self.old.progress.lines + 1) × (self.new.progress.held ≡ 0) }
+        ensures few { (length text.new.text ≤ length text.old.text + room_size) × (text.new.size ≡ text.old.size) }
+        ensures tells { Tells self.old (take n self.old.line) text.old result self.new text.new }
+    {
+        let was = self.progress;
+        let took = store::take_line(was.point, was.used, &self.line[..n], &mut self.store);
+        let used = took.used;
+        let lines = was.lines + 1;
+        match took.next {
+            Next::Goes(point) | Next::Keeps(point) => {
+                self.progress = Progress::behind(point, used, lines);
+                Ok(())
+            }
+            Next::Whole(point, returned) => {
+                let (fields, behind) = self.store.split_at(used);
+                let good = rsp_run::passes(
+                    self.mechanism,
+                    point.heads.fresh,
+                    fields,
+                    &behind[..returned],
+                );
+                words::passed(text, point.number, good);
+                self.progress = Progress::behind(point, 0, lines);
+                Ok(())
+            }
+            Next::PassedOver(point) => {
+                words::passed_over(text, point.number);
+                self.progress = Progress::behind(point, used, lines);
+                Ok(())
+            }
+            Next::Unread => {
+                words::unread(text, lines);
+                self.progress = Progress::behind(was.point, used, lines);
+                Err(Unread)
+            }
+        }
+    }
+
+    // Holds a line's characters as far as the window goes, and takes the line where its end is seen.
+    fn report_next<'w>(&mut self, window: &'w [u8], text: &mut Text<'_>) -> Piece<'w>
+        requires lines { self.old.progress.lines + 1 < 2 ^ 64 }
+        requires room { length text.old.text + room_size ≤ text.old.size }
+        ensures same { self.new.mechanism ≡ self.old.mechanism }
+        ensures lines { self.new.progress.lines ≤ self.old.progress.lines + 1 }
+        ensures rest { IsLeft window.now result.rest.now }
+        ensures further { 0 < length window.now → length result.rest.now < length window.now }
+        ensures few { (length text.new.text ≤ length text.old.text + room_size) × (text.new.size ≡ text.old.size) }
+        ensures reports { Reports self.old window.now text.old.text result self.new text.new.text }
+    {
+        let hold = file_lines::hold(window, 0, &mut self.line, self.progress.held);
+        let held = hold.held;
+        let rest = &window[hold.next.unwrap_or(window.len())..];
+        let Some(_) = hold.next else {
+            self.progress.held = held;
+            return Piece { rest, read: Ok(()) };
         };
+        let n = file_lines::text_end(&self.line[..held]);
+        let read = self.report_line(n, text);
+        Piece { rest, read }
     }
-    report_close(last, text, r.end)
+
+    // Reads the window, until the text has ENOUGH bytes or more, or a line can't be read.
+    pub fn report_some<'w>(&mut self, window: &'w [u8], text: &mut Text<'_>) -> Piece<'w>
+        requires lines { self.old.progress.lines ≤ 2 ^ 63 }
+        requires window { length window.now ≤ 65536 }
+        requires size { text.old.size ≡ text_size }
+        ensures same { self.new.mechanism ≡ self.old.mechanism }
+        ensures rest { IsLeft window.now result.rest.now }
+        ensures further { 0 < length window.now → length result.rest.now < length window.now }
+        ensures within { (length text.new.text ≤ text_size) × (text.new.size ≡ text_size) }
+        ensures reports { Reports self.old window.now [] result self.new text.new.text }
+    {
+        text.clear();
+        let mut piece = Piece {
+            rest: window,
+            read: Ok(()),
+        };
+        while !piece.rest.is_empty() && piece.read.is_ok() && text.len() < ENOUGH {
+            piece = self.report_next(piece.rest, text);
+        }
+        piece
+    }
+
+    // The file ends behind its lines: inside a case it lacks one.
+    fn report_close(&self, text: &mut Text<'_>) -> Result<(), Unread>
+        requires lines { self.now.progress.lines + 1 < 2 ^ 64 }
+        requires room { length text.old.text + room_size ≤ text.old.size }
+        ensures wrote { text.new ≡ text.old then lacking self.now.progress.lines self.now.progress.point }
+        ensures few { (length text.new.text ≤ length text.old.text + room_size) × (text.new.size ≡ text.old.size) }
+    {
+        // 0 between cases
+        if self.progress.point.last == 0 {
+            return Ok(());
+        }
+        words::unread(text, self.progress.lines + 1);
+        Err(Unread)
+    }
+
+    // The file ends: its last line may lack its end.
+    pub fn report_end(&mut self, text: &mut Text<'_>) -> Result<(), Unread>
+        requires lines { self.old.progress.lines ≤ 2 ^ 63 }
+        requires size { text.old.size ≡ text_size }
+        ensures within { (length text.new.text ≤ text_size) × (text.new.size ≡ text_size) }
+        ensures ends { Ends self.old text.new.text }
+    {
+        text.clear();
+        let held = self.progress.held;
+        if held != 0 {
+            self.report_line(held, text)?;
+        }
+        self.report_close(text)
+    }
 }

@@ -1,41 +1,49 @@
-// The lines of a report, written into a lent text at a place.
-ghost use Rattle.std.specs.Prelude.{cond, ◌+◌, ◌≤◌, length};
+// The lines of a report.
+ghost use Rattle.std.specs.Prelude.{◌≡◌, cond, ◌+◌, ◌≤◌, length};
 ghost use Rattle.text.specs.Ascii.{ascii};
-ghost use Rattle.text.specs.Writing.{Appends};
+ghost use Rattle.text.specs.Writing.{◌then◌};
 ghost use Rattle.responses.specs.Report.{verdict, unread_line};
-ghost use Rattle.responses.specs.Pieces.{room_size};
+ghost use Rattle.responses.specs.Sizes.{room_size};
+
+use text::Text;
 
 // A case's number, and what is said of it.
-fn verdict(out: &mut [u8], at: usize, number: u64, word: &[u8]) -> usize
-    requires { (at + room_size ≤ length out.old) × (length word.now ≤ 13) }
-    ensures { Appends out.old at (verdict number word.now) result out.new }
+#[tactic(auto, using(crate::proofs::Room::pieces), unfolding(crate::specs::Report::verdict))]
+fn verdict(text: &mut Text<'_>, number: u64, word: &[u8])
+    requires { (length text.old.text + room_size ≤ text.old.size) × (length word.now ≤ 13) }
+    ensures wrote { text.new ≡ text.old then verdict number word.now }
+    ensures few { length text.new.text ≤ length text.old.text + room_size }
 {
-    let place = text::decimal(out, at, number);
-    text::copy(out, place, word)
+    text.decimal(number);
+    text.copy(word);
 }
 
-pub fn passed(out: &mut [u8], at: usize, number: u64, good: bool) -> usize
-    requires { at + room_size ≤ length out.old }
-    ensures { Appends out.old at (verdict number (cond good (ascii " pass\n") (ascii " fail\n"))) result out.new }
+#[tactic(auto, unfolding(text::specs::Ascii::ascii))]
+pub fn passed(text: &mut Text<'_>, number: u64, good: bool)
+    requires { length text.old.text + room_size ≤ text.old.size }
+    ensures wrote { text.new ≡ text.old then verdict number (cond good (ascii " pass\n") (ascii " fail\n")) }
+    ensures few { length text.new.text ≤ length text.old.text + room_size }
 {
-    if good {
-        return verdict(out, at, number, b" pass\n");
-    }
-    verdict(out, at, number, b" fail\n")
+    let word = if good { b" pass\n" } else { b" fail\n" };
+    verdict(text, number, word);
 }
 
-pub fn passed_over(out: &mut [u8], at: usize, number: u64) -> usize
-    requires { at + room_size ≤ length out.old }
-    ensures { Appends out.old at (verdict number (ascii " passed over\n")) result out.new }
+#[tactic(auto, unfolding(text::specs::Ascii::ascii))]
+pub fn passed_over(text: &mut Text<'_>, number: u64)
+    requires { length text.old.text + room_size ≤ text.old.size }
+    ensures wrote { text.new ≡ text.old then verdict number (ascii " passed over\n") }
+    ensures few { length text.new.text ≤ length text.old.text + room_size }
 {
-    verdict(out, at, number, b" passed over\n")
+    verdict(text, number, b" passed over\n");
 }
 
-pub fn unread(out: &mut [u8], at: usize, n: u64) -> usize
-    requires { at + room_size ≤ length out.old }
-    ensures { Appends out.old at (unread_line n) result out.new }
+#[tactic(auto, using(crate::proofs::Room::pieces), unfolding(crate::specs::Report::unread_line, text::specs::Ascii::ascii))]
+pub fn unread(text: &mut Text<'_>, n: u64)
+    requires { length text.old.text + room_size ≤ text.old.size }
+    ensures wrote { text.new ≡ text.old then unread_line n }
+    ensures few { length text.new.text ≤ length text.old.text + room_size }
 {
-    let place = text::copy(out, at, b"line ");
-    let end = text::decimal(out, place, n);
-    text::put(out, end, b'\n')
+    text.copy(b"line ");
+    text.decimal(n);
+    text.put(b'\n');
 }

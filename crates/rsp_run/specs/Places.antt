@@ -1,26 +1,19 @@
--- Where a field of a case stands in the bytes that hold them.
-use Rattle.std.specs.Prelude.{ℕ, ◌-◌, ◌≤◌, ◌≡◌, List, [], ◌∷◌, length, take, drop}
-use Rattle.rsp_case.specs.Cases.{Field, first}
+-- Which field stands first in the bytes that hold a case's fields.
+use Rattle.std.specs.Prelude.{ℕ, ◌≡◌, List, [], ◌∷◌, Option, None, Some}
+use Rattle.rsp_case.specs.Cases.{Field, ◌is◌}
 use Rattle.rsp_case.specs.Store.{stored}
-use Rattle.rsp_run.specs.declared.field.Place.{Place}
+use Rattle.rsp_run.specs.declared.field.Field as read
 
-abbrev pub In : (s : List ℕ) → Place → Type 0
-In s p = (p.start ≤ p.stop) × (p.stop ≤ length s)
+-- the field stands first, and the bytes behind it hold the others
+pub record First (f : read.Field) (fields : List Field) : Type 0 where
+  pub others : List Field
+  pub are : fields ≡ (f.name is f.value.now) ∷ others
+  pub rest : f.rest.now ≡ stored others
 
-abbrev pub value_at : (s : List ℕ) → Place → List ℕ
-value_at s p = take (p.stop - p.start) (drop p.start s)
+abbrev pub FirstOf : Option read.Field → List Field → Type 0
+FirstOf None fields = fields ≡ []
+FirstOf (Some f) fields = First f fields
 
--- 0 where there is none, which is the name of no field
-abbrev pub first_name : List Field → ℕ
-first_name [] = 0
-first_name (f ∷ fields) = f.name
-
--- the first field stands at this place, and the others behind it
-pub record FirstAt (s : List ℕ) (p : Place) (fields : List Field) : Type 0 where
-  pub name : p.name ≡ first_name fields
-  pub value : value_at s p ≡ first fields
-  pub rest : drop p.stop s ≡ stored (drop 1 fields)
-
--- whichever fields stand from a place on, this is the first one's
-abbrev pub ReadAt : (s : List ℕ) (at : ℕ) → Place → Type 0
-ReadAt s at p = (fields : List Field) → drop at s ≡ stored fields → FirstAt s p fields
+-- whichever fields the bytes hold, this is the first
+abbrev pub Reads : (s : List ℕ) → Option read.Field → Type 0
+Reads s r = (fields : List Field) → s ≡ stored fields → FirstOf r fields

@@ -2,15 +2,15 @@
 
 #![tactic(auto)]
 
-ghost use Rattle.std.specs.Prelude.{ℕ, ◌≤◌, ◌≡◌, List, length};
-ghost use Rattle.rsp_case.specs.Cases.{Field, case_of};
+ghost use Rattle.std.specs.Prelude.{ℕ, ◌≤◌, ◌≡◌, List, length, drop};
+ghost use Rattle.rsp_case.specs.Cases.{Field, first, case_of};
 ghost use Rattle.rsp_case.specs.Store.{stored};
 ghost use Rattle.rsp_run.specs.Run.{passes};
-ghost use Rattle.rsp_run.specs.Walk.{OpensCase, GivesAt};
+ghost use Rattle.rsp_run.specs.Walk.{OpensCase, Gives};
 
+use reasons::Reason;
 use same::same;
 use slots::sizes;
-use table::answers::Told;
 
 pub mod field;
 pub mod steps;
@@ -18,28 +18,39 @@ pub mod steps;
 // Room for the longest string that a line returns.
 const OUTPUT: usize = 2048;
 
-// 2^48, the most draws between two reseeds that an opening takes.
-const INTERVAL: u64 = 281474976710656;
+// The most draws between two reseeds that an opening takes.
+const INTERVAL: u64 = 1 << 48;
 
-// What the opening was answered, and where the steps begin.
+// The handle that the opening gave, and the bytes of the fields behind it.
 #[derive(Clone, Copy)]
-pub struct Opened {
-    pub told: Told,
-    pub next: usize,
+pub struct Opened<'a> {
+    pub handle: u64,
+    pub rest: &'a [u8],
 }
 
-// The first three fields are EntropyInput, Nonce and PersonalizationString.
-fn open_case(table: &mut [u8], mechanism: u64, fresh: bool, fields: &[u8]) -> Opened
+// The first field's value, and the bytes of the fields behind it; where there is no field, no bytes.
+fn value_first(fields: &[u8]) -> (&[u8], &[u8])
+    ensures { (l : List Field) → fields.now ≡ stored l → (result.0.now ≡ first l) × (result.1.now ≡ stored (drop 1 l)) }
+{
+    match field::first_field(fields) {
+        Some(f) => (f.value, f.rest),
+        None => (b"", b""),
+    }
+}
+
+// The first three fields are EntropyInput, Nonce and PersonalizationString. Any number may be asked for as the mechanism.
+fn open_case<'a>(
+    table: &mut [u8],
+    mechanism: u64,
+    fresh: bool,
+    fields: &'a [u8],
+) -> Result<Opened<'a>, Reason>
     ensures { OpensCase fields.now mechanism fresh table.old result table.new }
 {
-    let first = field::field_at(fields, 0);
-    let second = field::field_at(fields, first.stop);
-    let third = field::field_at(fields, second.stop);
-    let next = third.stop;
-    let entropy = field::value_of(fields, first);
-    let nonce = field::value_of(fields, second);
-    let personalization = field::value_of(fields, third);
-    let told = calls::open(
+    let (entropy, behind) = value_first(fields);
+    let (nonce, last) = value_first(behind);
+    let (personalization, rest) = value_first(last);
+    let served = calls::open(
         table,
         mechanism,
         0,
@@ -48,43 +59,37 @@ fn open_case(table: &mut [u8], mechanism: u64, fresh: bool, fields: &[u8]) -> Op
         entropy,
         nonce,
         personalization,
-    );
-    Opened { told, next }
+    )?;
+    Ok(Opened {
+        handle: served.value,
+        rest,
+    })
 }
 
-// Whether every step from a place on is served, and the last draw gives what was returned.
-fn gives(
-    table: &mut [u8],
-    fields: &[u8],
-    from: usize,
-    handle: u64,
-    out: &mut [u8],
-    returned: &[u8],
-) -> bool
-    ensures { GivesAt fields.now from handle table.old out.old returned.now result }
+// Whether every step is served, and the last draw gives what was returned.
+fn gives(table: &mut [u8], fields: &[u8], handle: u64, out: &mut [u8], returned: &[u8]) -> bool
+    ensures { Gives fields.now handle table.old out.old returned.now result }
 {
-    let served = steps::run_steps(table, fields, from, handle, out);
-    served & same(out, returned)
+    let served = steps::run_steps(table, fields, handle, out);
+    served.is_ok() & same(out, returned)
 }
 
-// Whether a case passes, whose fields stand in bytes, from a fresh table.
+// Whether a case passes, whose fields stand in bytes, from a fresh table. Any number may be asked for as the mechanism.
 pub fn passes(mechanism: u64, fresh: bool, fields: &[u8], returned: &[u8]) -> bool
     requires { length returned.now ≤ 2048 }
     ensures { (number : ℕ) (l : List Field) → fields.now ≡ stored l
         → result ≡ passes mechanism fresh (case_of number l returned.now) }
 {
     let mut table = [0u8; sizes::TABLE];
-    let opened = open_case(&mut table, mechanism, fresh, fields);
-    if opened.told.number != 0 {
+    let Ok(opened) = open_case(&mut table, mechanism, fresh, fields) else {
         return false;
-    }
+    };
     let mut out = [0u8; OUTPUT];
     let n = returned.len();
     gives(
         &mut table,
-        fields,
-        opened.next,
-        opened.told.value,
+        opened.rest,
+        opened.handle,
         &mut out[..n],
         returned,
     )

@@ -1,18 +1,17 @@
--- Each piece gets further in the window, and goes on with what the one before it left.
-use Rattle.std.proofs.Common.{length, ◌-◌, ◌≡◌, ◌≤◌}
-use Rattle.file_lines.specs.Held.{line_size}
-use Rattle.responses.specs.Pieces.{store_size, text_size}
-use Rattle.respond.specs.Reading.{Going, GoesOn}
+-- Each piece goes on with what the one before it left.
+use Rattle.std.proofs.Common.{length, ◌≡◌, ◌≤◌}
+use Rattle.responses.specs.Sizes.{text_size}
+use Rattle.respond.specs.Reading.{Going, GoesOn, window_size}
 use Rattle.respond.proofs.reading.report_window.Given as goal
 
-abbrev pub invariant-loop-at : goal.invariant-loop-at
-invariant-loop-at l =
+abbrev pub invariant-loop-rest : goal.invariant-loop-rest
+invariant-loop-rest l =
     record {
-      sizes : (length l.line ≡ line_size) × (length l.store ≡ store_size) × (length l.text ≡ text_size);
-      inside : l.at ≤ length l.window;
-      going : Going l.progress;
-      goes : GoesOn l.mechanism l.initial.progress l.initial.store l.initial.line l.window l.at l.progress l.store l.line;
+      few : length l.rest ≤ window_size;
+      size : l.text.size ≡ text_size;
+      going : Going l.reader;
+      goes : GoesOn l.initial.reader l.window l.rest l.reader;
     }
 
-abbrev pub decreases-loop-at : goal.decreases-loop-at
-decreases-loop-at l = length l.window - l.at
+abbrev pub decreases-loop-rest : goal.decreases-loop-rest
+decreases-loop-rest l = length l.rest

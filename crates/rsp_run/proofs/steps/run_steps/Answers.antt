@@ -1,16 +1,24 @@
--- A step that was served leaves the steps behind it, a refused one ends the walk, and no byte left is no step left.
+-- A step that was served leaves the steps behind it, a refused one ends the walk, and no field left is no step left.
+use Rattle.std.proofs.Common.{refl}
 use Rattle.rsp_run.proofs.Outputs.{none_left, refused-one, served-one}
+use Rattle.std.proofs.lemmas.Result.{err_from_is_err_and}
 use Rattle.rsp_run.proofs.steps.run_steps.Goals as goal
 
-pub returns-then-step-ne0 : goal.returns-then-step-ne0
-returns-then-step-ne0 c = λ fields are.
-    let left = c.loop-at.invariant fields are in
-    refused-one left (c.run_step-step.ensures.is left.fields left.stand) c.if-step-ne0.true
+pub loop-first-init : goal.loop-first-init
+loop-first-init c = λ fields are. record { fields = fields; hold = are; is = refl }
 
-pub loop-at-preserved : goal.loop-at-preserved
-loop-at-preserved c = λ fields are.
-    let left = c.loop-at.invariant fields are in
-    served-one left (c.run_step-step.ensures.is left.fields left.stand) c.if-step-ne0.false
+pub returns-in_err-left : goal.returns-in_err-left
+returns-in_err-left c = λ fields are.
+    let left = c.loop-first.invariant fields are in
+    let p = err_from_is_err_and c.from_residual.result c.from_residual.ensures.1 in
+    rw p.1 (refused-one left (c.in_err-left.ensures.is left.fields (c.in-Some.ensures.is left.fields left.hold)))
+
+pub loop-first-preserved : goal.loop-first-preserved
+loop-first-preserved c = λ fields are.
+    let left = c.loop-first.invariant fields are in
+    served-one left (c.in_ok-left.ensures.is left.fields (c.in-Some.ensures.is left.fields left.hold))
 
 pub returns : goal.returns
-returns c = λ fields are. none_left (c.loop-at.invariant fields are) c.loop-at-test.false
+returns c = λ fields are.
+    let left = c.loop-first.invariant fields are in
+    none_left left (c.in_default.ensures.is left.fields left.hold)
