@@ -1,9 +1,11 @@
 -- Sums of long numbers, one limb after the other from the right, with a carry. Assumes nothing.
-use Rattle.std.proofs.Common.{◌≡◌, ℕ, zero, suc, ◌+◌, ◌*◌, ◌/◌, ◌%◌, ◌^◌, ◌<◌, List, [], ◌∷◌, ◌++◌, length}
+use Rattle.std.proofs.Common.{◌≡◌, ℕ, zero, suc, ◌+◌, ◌*◌, ◌/◌, ◌%◌, ◌^◌, ◌<◌, ltb, List, [], ◌∷◌, ◌++◌, length}
 use Rattle.std.proofs.Common.{get_or, take, drop, set, replicate, sym, refl, ap, ◌∙◌, ap₂, append_assoc, append-nil, le_of_eq, add-zero}
 use Rattle.std.proofs.Common.{add-mul, div-add-mod', zero-mul, add-one, arith, lit<, length-set, drop_of_length-le, take_all, drop-cons}
-use Rattle.std.proofs.Common.{get_or-set_same, take_at, drop-set-lt}
+use Rattle.std.proofs.Common.{get_or-set_same, take_at, drop-set-lt, le-ltb, lt-ltb}
+use Rattle.std.specs.Int.{from_bool}
 use native.Mathlib.Nat.{mul-add-div_right, one-le-pow}
+use native.Mathlib.Decide.{dec_lt}
 use Rattle.standard.specs.Strings.{number_of, bytes_of}
 use Rattle.standard.proofs.Strings.{number_of-append, number_of-bytes_of, bytes_of-add, bytes_of_above, bytes_of_mod, length-bytes_of}
 use Rattle.sums.specs.Limbs.{string_of}
@@ -61,6 +63,27 @@ limbs_all a b a-long b-long =
 pub limbs_none : (s l : List ℕ) (n : ℕ) → s ≡ bytes_of 0 n ++ string_of l → s ≡ string_of l
 unfolding bytes_of
 limbs_none s l n h = h
+
+-- a sum that wraps is below each of its parts
+pub carried : (a b sum : ℕ) → a < 2 ^ 64 → b < 2 ^ 64 → sum ≡ (a + b) % 2 ^ 64 → from_bool (ltb sum a) ≡ (a + b) / 2 ^ 64
+carried a b sum small-a small_b sum-is = go (dec_lt (a + b) (2 ^ 64))
+  where
+    go : Dec (a + b < 2 ^ 64) → from_bool (ltb sum a) ≡ (a + b) / 2 ^ 64
+    go (yes whole) = rw (le-ltb sum a (omega arith)) (omega arith)
+    go (no wraps) = rw (lt-ltb sum a (omega (arith, wraps))) (omega (arith, wraps))
+
+pub carried_twice : (a b carry sum : ℕ) → sum ≡ (a + b) % 2 ^ 64 → (a + b) / 2 ^ 64 + (sum + carry) / 2 ^ 64 ≡ (a + b + carry) / 2 ^ 64
+carried_twice a b carry sum sum-is = omega arith
+
+-- two limbs and a carry, added by two sums that may wrap: what is left, and what the two comparisons carry on
+pub limbs_added : (a b carry low last first second : ℕ) → first ≡ from_bool (ltb low a) → second ≡ from_bool (ltb last low)
+    → a < 2 ^ 64 → b < 2 ^ 64 → carry < 2 ^ 64 → low ≡ (a + b) % 2 ^ 64 → last ≡ (low + carry) % 2 ^ 64
+    → (last ≡ (a + b + carry) % 2 ^ 64) × (first + second ≡ (a + b + carry) / 2 ^ 64)
+limbs_added a b carry low last first second first-is second-is small-a small_b small_carry low-is last-is = (
+  omega arith,
+  ap₂ ◌+◌ (first-is ∙ carried a b low small-a small_b low-is) (second-is ∙ carried low carry last (omega arith) small_carry last-is) ∙
+      carried_twice a b carry low low-is,
+)
 
 -- zeros before a number
 number_of-zeros : (k n : ℕ) → number_of (take k (replicate n 0)) ≡ 0

@@ -40,10 +40,14 @@ pub fn plus(a: [u64; 7], b: [u64; 7]) -> [u64; 7]
     ensures { string_of result ≡ bytes_of 56 (number_of (string_of a) + number_of (string_of b)) }
 {
     let mut sum = a;
-    let mut carry = false;
-    // By place, from the last to the first: of what is written through iter_mut a proof knows the length alone.
+    let mut carry = 0;
+    // By place, from the last to the first: of what is written through iter_mut a proof knows the length alone. A sum that wraps is below
+    // each of its parts, and this comparison is the carry: the library's carrying_add branches on the sum.
     for i in (0..7).rev() {
-        (sum[i], carry) = a[i].carrying_add(b[i], carry);
+        let low = a[i].wrapping_add(b[i]);
+        let last = low.wrapping_add(carry);
+        sum[i] = last;
+        carry = u64::from(low < a[i]) + u64::from(last < low);
     }
     sum
 }

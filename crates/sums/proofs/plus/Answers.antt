@@ -1,7 +1,6 @@
 -- One limb is done, and its carry goes to the limb before it.
-use Rattle.std.proofs.Common.{◌≡◌, ◌+◌, ◌-◌, sym, arith, rules}
-use Rattle.std.specs.Int.{from_bool}
-use Rattle.sums.proofs.Carries.{limb_done, limbs_all, limbs_none}
+use Rattle.std.proofs.Common.{◌≡◌, ◌+◌, ◌-◌, get_or, sym, arith, rules}
+use Rattle.sums.proofs.Carries.{limbs_added, limb_done, limbs_all, limbs_none}
 use Rattle.sums.proofs.plus.Goals as goal
 
 pub loop-i-init : goal.loop-i-init
@@ -11,11 +10,14 @@ pub loop-i-preserved : goal.loop-i-preserved
 loop-i-preserved c =
     let l = c.loop-i in
     let a = c.args in
-    let one = c.carrying_add in
-    let back : l.i ≡ l.i - 1 + 1 = omega arith in (
+    let i = l.i - 1 in
+    let back : l.i ≡ i + 1 = omega arith in
+    let carry = c.from.result + c.from-in-loop-i.result in
+    let added = limbs_added (get_or a.a i 0) (get_or a.b i 0) l.carry _ _ _ _ c.from.ensures c.from-in-loop-i.ensures
+    (omega arith) (omega arith) (omega arith) (omega arith) (omega arith) in (
       search rules,
-      limb_done a.a a.b l.sum _ (l.i - 1) (from_bool l.carry) one.result.0 (from_bool one.result.1) (omega arith) (omega arith)
-          (omega arith) (omega arith) (omega arith) (omega (arith, one.ensures)) (omega (arith, one.ensures)) (rw back at l.invariant.1),
+      limb_done a.a a.b l.sum _ i l.carry _ carry (omega arith) (omega arith) (omega arith) (omega arith) (omega arith) added.0 added.1
+          (rw back at l.invariant.1),
     )
 
 pub returns : goal.returns
