@@ -4,5 +4,4 @@ pub mod Decisions
 pub mod Ahead
 pub mod Allowed
 pub mod Strengths
-pub mod Slots
 pub mod Numbers

@@ -1,5 +1,5 @@
 // Open: 1, 3, 4, 5, 6, 8, 9, 13, 14; here from 3 on, once the table is sound.
-ghost use Rattle.std.specs.Prelude.{◌≡◌, ◌≢◌, true, unwrap_or};
+ghost use Rattle.std.specs.Prelude.{◌≡◌, true, unwrap_or};
 ghost use Rattle.reasons.specs.Numbers.{refused_by};
 ghost use Rattle.reasons.specs.Reasons.{first_of};
 ghost use Rattle.reasons.specs.Checks.{open_reasons};
@@ -11,8 +11,8 @@ use crate::Reason::{
 use crate::{Reason, outside, refuse_if, rounded};
 
 // Any number may be asked for as the mechanism.
-// `slot` is the lowest free one, if there is any (none has the number 16), and `last` the last serial.
-#[tactic(auto, using(crate::proofs::Slots::none_free), unfolding(crate::specs::Checks::open_reasons, crate::specs::Reasons::first_of))]
+// `slot` is the lowest free one, if there is any (16 stands for none), and `last` the last serial.
+#[tactic(auto, unfolding(crate::specs::Checks::open_reasons, crate::specs::Reasons::first_of))]
 pub fn open_reason(
     mechanism: u64,
     strength: u64,
@@ -23,7 +23,7 @@ pub fn open_reason(
     slot: Option<usize>,
     last: u32,
 ) -> Result<(), Reason>
-    ensures { slot ≢ Some 16 → refused_by result
+    ensures { refused_by result
         ≡ first_of (open_reasons true mechanism strength interval entropy nonce personalization (unwrap_or slot 16) last) }
 {
     let own = u64::from(rounded(strength));
@@ -33,6 +33,6 @@ pub fn open_reason(
     refuse_if(512 < personalization, PersonalizationTooLong)?;
     refuse_if(outside(own / 8, entropy as u64, 1024), EntropyOutOfRange)?;
     refuse_if(outside(own / 16, nonce as u64, 64), NonceOutOfRange)?;
-    refuse_if(slot.is_none(), NoFreeSlot)?;
+    refuse_if(slot.unwrap_or(16) == 16, NoFreeSlot)?;
     refuse_if(last == u32::MAX, SerialsUsedUp)
 }
