@@ -1,7 +1,7 @@
 -- Numbers and their bytes, and strings put into others. Assumes nothing.
-use Rattle.std.proofs.Common.{◌≡◌, ℕ, zero, suc, ◌+◌, ◌*◌, ◌/◌, ◌%◌, ◌^◌, ◌<◌, ◌≤◌, [], ◌∷◌, ◌++◌, ◌∙◌, drop-drop, take-add, refl, pow-suc}
-use Rattle.std.proofs.Common.{take-suc, List, reverse, length, get_or, take, drop, set, sym, ap, subst, ap₂, le_of_eq, mod-eq_of_lt}
-use Rattle.std.proofs.Common.{mul_comm, add_comm, arith, length-drop, length-take-le, take_all}
+use Rattle.std.proofs.Common.{◌≡◌, ℕ, zero, suc, ◌+◌, ◌-◌, ◌*◌, ◌/◌, ◌%◌, ◌^◌, ◌<◌, ◌≤◌, [], ◌∷◌, ◌++◌, ◌∙◌, drop-drop, take-add, refl}
+use Rattle.std.proofs.Common.{pow-suc, take-suc, List, reverse, length, get_or, take, drop, set, sym, ap, subst, ap₂, append-nil, le_of_eq}
+use Rattle.std.proofs.Common.{mod-eq_of_lt, mul_comm, add_comm, zero-add, arith, length-drop, drop_of_length-le, length-take-le, take_all}
 use Rattle.std.proofs.Math.Nat.{pow-zero, div-one, div-div-eq-div-mul}
 use mathlib.Core.List.{reverse-cons, reverse-append, reverse-reverse}
 use lib.ListN.{length-reverse}
@@ -122,3 +122,19 @@ front_byte {at = at} {d = d} b f room = front_more 1 (b ∷ []) f room refl (set
 
 pub front_all : {size : ℕ} {a d : List ℕ} → Front size size a d → d ≡ a
 front_all {size} {a} {d} f = sym (take_all size d (le_of_eq f.whole)) ∙ f.is
+
+-- a part copied over all of another string
+paste_over : (d b : List ℕ) (n : ℕ) → length d ≡ n → length b ≡ n → paste d 0 b n ≡ b
+paste_over d b n first second =
+    let behind : drop (0 + n) d ≡ [] = drop_of_length-le d (le_of_eq (first ∙ sym (zero-add n))) in
+    ap₂ ◌++◌ (take_all n b (le_of_eq second)) behind ∙ append-nil b
+
+-- so a part that is copied into an array of its length is what the array holds
+pub part_copied : (d s : List ℕ) (at n : ℕ) → length d ≡ n → at + n ≤ length s →
+    let p = take (at + n - at) (drop at s) in
+    paste d 0 p (length p) ≡ part at n s
+part_copied d s at n sized room =
+    let whole : at + n - at ≡ n = omega arith in
+    ap (λ k. paste d 0 (take k (drop at s)) (length (take k (drop at s)))) whole ∙
+    ap (paste d 0 (part at n s)) (length_part at n s room) ∙
+    paste_over d (part at n s) n sized (length_part at n s room)

@@ -8,4 +8,4 @@ pub returns : goal.returns
 returns c =
     let s = c.args.table.now in
     last_put (table_of s) c.args.last (sym (bytes-table_of s (record { at = λ i. search rules }) c.requires)) c.requires
-    c.to_le_bytes.ensures c.copy.ensures
+    (search rules) c.copy.ensures

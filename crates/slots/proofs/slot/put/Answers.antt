@@ -12,10 +12,10 @@ returns c =
     let s = c.args.s in
     let f0 : Front slot_size 0 [] c.args.to.now = record { is = refl; whole = c.requires } in
     let f1 = front_byte s.mechanism f0 (omega arith) in
-    let f2 = front_number w16 s.strength f1 (omega arith) c.to_le_bytes.ensures c.copy.ensures in
-    let f3 = front_number w64 s.interval f2 (omega arith) c.to_le_bytes-2.ensures c.copy-2.ensures in
-    let f4 = front_number w64 s.counter f3 (omega arith) c.to_le_bytes-3.ensures c.copy-3.ensures in
+    let f2 = front_number w16 s.strength f1 (omega arith) (search rules) c.copy.ensures in
+    let f3 = front_number w64 s.interval f2 (omega arith) (search rules) c.copy-2.ensures in
+    let f4 = front_number w64 s.counter f3 (omega arith) (search rules) c.copy-3.ensures in
     let f5 = front_byte s.fresh f4 (omega arith) in
-    let f6 = front_number w32 s.serial f5 (omega arith) c.to_le_bytes-4.ensures c.copy-4.ensures in
+    let f6 = front_number w32 s.serial f5 (omega arith) (search rules) c.copy-4.ensures in
     let f7 = front_more field_size s.first f6 (omega arith) (search rules) c.copy-5.ensures in
     front_all (front_more field_size s.second f7 (omega arith) (search rules) c.copy-6.ensures)

@@ -1,18 +1,20 @@
 -- A slot of mechanism 0 is sound only if it is free, and any other only if it is used.
-use Rattle.std.proofs.Common.{ne_eqb, arith, tests}
-use Rattle.slots.specs.Sound.{free_sound, used_sound, sound_slot}
+use Rattle.std.proofs.Common.{◌≡◌, ℕ, Bool, List, length, ne_eqb, arith, rules, tests}
+use Rattle.slots.specs.Sound.{all_zero, free_sound, used_sound, sound_slot}
 use Rattle.slots.specs.Slots.{slot_from}
-use Rattle.slots.specs.Sizes.{field_size, first_at, second_at}
+use Rattle.slots.specs.Sizes.{field_size, slot_size, first_at, second_at}
 use Rattle.slots.proofs.LittleEndian.{length_part}
 use Rattle.slots.proofs.ZeroBytes.{blank}
 use Rattle.slots.proofs.sound.slot_is_sound.Goals as goal
 
-pub returns-then-slot-eq0 : goal.returns-then-slot-eq0
+free_only : {zero : Bool} (last : ℕ) (s : List ℕ) → zero ≡ all_zero s → length s ≡ slot_size → (slot_from s).mechanism ≡ 0
+    → zero ≡ sound_slot last (slot_from s)
 unfolding used_sound sound_slot
+free_only last s is sized free = grind (arith, tests, is, blank s sized, free)
+
+pub returns-then-slot-eq0 : goal.returns-then-slot-eq0
 returns-then-slot-eq0 c =
-    let is = c.slot_from-slot.ensures in
-    let free = rw is at c.if-slot-eq0.true in
-    grind (arith, tests, c.is_zero.ensures, blank c.args.s.now c.requires, free)
+    free_only c.args.last c.args.s.now (search (rules, tests)) c.requires (rw c.slot_from-slot.ensures at c.if-slot-eq0.true)
 
 pub returns : goal.returns
 unfolding free_sound used_sound sound_slot slot_from
