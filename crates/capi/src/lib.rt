@@ -10,24 +10,16 @@ ghost use Rattle.capi.specs.Left.{leaves};
 ghost use Rattle.self_test.specs.SelfTest.{first_differing};
 
 use reasons::Reason;
-use table::answers::Served;
+use table::answers::{Served, told};
 
 // What a call tells goes out by the result and the two pointers.
 fn tell(outcome: Result<Served, Reason>, blocks: &mut u64, value: &mut u64) -> u64
     ensures { record { number = result; blocks = blocks.new; value = value.new } ≡ told_of outcome }
 {
-    match outcome {
-        Ok(served) => {
-            *blocks = served.blocks;
-            *value = served.value;
-            0
-        }
-        Err(reason) => {
-            *blocks = 0;
-            *value = 0;
-            reason.into()
-        }
-    }
+    let (number, told_blocks, told_value) = told(outcome);
+    *blocks = told_blocks;
+    *value = told_value;
+    number
 }
 
 // `fresh` is C's truth: 0 is no, any other number is yes.

@@ -1,12 +1,13 @@
-// What a served call hands back beside the bytes.
+// What a call hands back beside the bytes.
 ghost use Rattle.slots.specs.Sizes.{table_size};
 ghost use Rattle.std.specs.Prelude.{◌≡◌, [], ◌<◌, length};
 ghost use Rattle.drbg_shared.specs.Generator.{holding, led_on};
 ghost use Rattle.slots.specs.Layout.{slot_at};
 ghost use Rattle.table.specs.Answers.{generator_of, with_generator, stepped, new_slot};
 ghost use Rattle.slots.specs.Bytes.{table_of};
-ghost use Rattle.table.specs.OnBytes.{leaving, told_served, done};
+ghost use Rattle.table.specs.OnBytes.{leaving, told_of, told_served, done};
 
+use reasons::Reason;
 use slots::layout;
 use slots::slot::Slot;
 
@@ -14,6 +15,16 @@ use slots::slot::Slot;
 pub struct Served {
     pub blocks: u64,
     pub value: u64,
+}
+
+// A call's outcome in numbers: the answer (0, or document 01's number for the reason), the blocks and the value.
+pub fn told(outcome: Result<Served, Reason>) -> (u64, u64, u64)
+    ensures { record { number = result.0; blocks = result.1; value = result.2 } ≡ told_of outcome }
+{
+    match outcome {
+        Ok(served) => (0, served.blocks, served.value),
+        Err(reason) => (reason.into(), 0, 0),
+    }
 }
 
 // The generator in slot i has made its step: the slot with its fields and its counter, and the blocks that were consumed.

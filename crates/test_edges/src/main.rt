@@ -10,13 +10,11 @@ use sha256::running;
 use slots::slot::Slot;
 use slots::{layout, sizes};
 use std::io;
+use table::answers::told;
 use test_output::{print_bytes, print_number, print_text};
 
 fn print_answer(rt: &impl Print, name: &[u8], a: Answer) -> io::Result<()> {
-    let (number, blocks, value) = match a.outcome {
-        Ok(served) => (0, served.blocks, served.value),
-        Err(reason) => (reason.into(), 0, 0),
-    };
+    let (number, blocks, value) = told(a.outcome);
     print_text(rt, name)?;
     print_number(rt, number)?;
     print_number(rt, blocks)?;
