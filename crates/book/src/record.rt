@@ -3,9 +3,10 @@ ghost use Rattle.std.specs.Prelude.{◌≡◌};
 ghost use Rattle.book.specs.Reading.{read_map};
 ghost use Rattle.book.specs.Records.{open_at, reseed_at, draw_at, fresh_draw_at, close_at, inquire_at, fields_at, record_at};
 ghost use Rattle.book.specs.Records.{meaning_of, kind_of};
-ghost use Rattle.book.specs.Values.{record_of, record_to, says, meaning};
+ghost use Rattle.book.specs.Values.{record_read, record_to, record_of, meaning_to, says, meaning};
 
 use crate::cursor::Cursor;
+use crate::string::BookString;
 
 #[derive(Clone, Copy)]
 pub enum Record<'a> {
@@ -15,27 +16,27 @@ pub enum Record<'a> {
         strength: u64,
         interval: u64,
         fresh: bool,
-        entropy: &'a [u8],
-        nonce: &'a [u8],
-        personalization: &'a [u8],
+        entropy: BookString<'a>,
+        nonce: BookString<'a>,
+        personalization: BookString<'a>,
     },
     Reseed {
         handle: u64,
-        entropy: &'a [u8],
-        additional: &'a [u8],
+        entropy: BookString<'a>,
+        additional: BookString<'a>,
     },
     Draw {
         handle: u64,
         strength: u64,
         request: u64,
-        additional: &'a [u8],
+        additional: BookString<'a>,
     },
     FreshDraw {
         handle: u64,
         strength: u64,
         request: u64,
-        entropy: &'a [u8],
-        additional: &'a [u8],
+        entropy: BookString<'a>,
+        additional: BookString<'a>,
     },
     Close {
         handle: u64,
@@ -64,7 +65,8 @@ impl Record<'_> {
 // A function for each kind, which names its own fields: one function over a table of fields would hide them.
 #[tactic(auto, unfolding(crate::specs::Records::open_at))]
 fn open_fields<'a>(fields: &mut Cursor<'a>) -> Option<Record<'a>>
-    ensures { record_to result fields.new.at ≡ says open_at fields.old }
+    ensures record { record_to result fields.new.at ≡ open_at fields.old.book.now fields.old.at }
+    ensures meaning { meaning_to result fields.new.at ≡ says open_at fields.old }
 {
     Some(Record::Open {
         mechanism: fields.number()?,
@@ -79,7 +81,8 @@ fn open_fields<'a>(fields: &mut Cursor<'a>) -> Option<Record<'a>>
 
 #[tactic(auto, unfolding(crate::specs::Records::reseed_at))]
 fn reseed_fields<'a>(fields: &mut Cursor<'a>) -> Option<Record<'a>>
-    ensures { record_to result fields.new.at ≡ says reseed_at fields.old }
+    ensures record { record_to result fields.new.at ≡ reseed_at fields.old.book.now fields.old.at }
+    ensures meaning { meaning_to result fields.new.at ≡ says reseed_at fields.old }
 {
     Some(Record::Reseed {
         handle: fields.number()?,
@@ -90,7 +93,8 @@ fn reseed_fields<'a>(fields: &mut Cursor<'a>) -> Option<Record<'a>>
 
 #[tactic(auto, unfolding(crate::specs::Records::draw_at))]
 fn draw_fields<'a>(fields: &mut Cursor<'a>) -> Option<Record<'a>>
-    ensures { record_to result fields.new.at ≡ says draw_at fields.old }
+    ensures record { record_to result fields.new.at ≡ draw_at fields.old.book.now fields.old.at }
+    ensures meaning { meaning_to result fields.new.at ≡ says draw_at fields.old }
 {
     Some(Record::Draw {
         handle: fields.number()?,
@@ -102,7 +106,8 @@ fn draw_fields<'a>(fields: &mut Cursor<'a>) -> Option<Record<'a>>
 
 #[tactic(auto, unfolding(crate::specs::Records::fresh_draw_at))]
 fn fresh_draw_fields<'a>(fields: &mut Cursor<'a>) -> Option<Record<'a>>
-    ensures { record_to result fields.new.at ≡ says fresh_draw_at fields.old }
+    ensures record { record_to result fields.new.at ≡ fresh_draw_at fields.old.book.now fields.old.at }
+    ensures meaning { meaning_to result fields.new.at ≡ says fresh_draw_at fields.old }
 {
     Some(Record::FreshDraw {
         handle: fields.number()?,
@@ -115,7 +120,8 @@ fn fresh_draw_fields<'a>(fields: &mut Cursor<'a>) -> Option<Record<'a>>
 
 #[tactic(auto, unfolding(crate::specs::Records::close_at))]
 fn close_fields<'a>(fields: &mut Cursor<'a>) -> Option<Record<'a>>
-    ensures { record_to result fields.new.at ≡ says close_at fields.old }
+    ensures record { record_to result fields.new.at ≡ close_at fields.old.book.now fields.old.at }
+    ensures meaning { meaning_to result fields.new.at ≡ says close_at fields.old }
 {
     Some(Record::Close {
         handle: fields.number()?,
@@ -124,7 +130,8 @@ fn close_fields<'a>(fields: &mut Cursor<'a>) -> Option<Record<'a>>
 
 #[tactic(auto, unfolding(crate::specs::Records::inquire_at))]
 fn inquire_fields<'a>(fields: &mut Cursor<'a>) -> Option<Record<'a>>
-    ensures { record_to result fields.new.at ≡ says inquire_at fields.old }
+    ensures record { record_to result fields.new.at ≡ inquire_at fields.old.book.now fields.old.at }
+    ensures meaning { meaning_to result fields.new.at ≡ says inquire_at fields.old }
 {
     Some(Record::Inquire {
         handle: fields.number()?,
@@ -133,7 +140,8 @@ fn inquire_fields<'a>(fields: &mut Cursor<'a>) -> Option<Record<'a>>
 
 #[tactic(auto, unfolding(crate::specs::Records::fields_at))]
 fn fields_of<'a>(kind: u64, fields: &mut Cursor<'a>) -> Option<Record<'a>>
-    ensures { record_to result fields.new.at ≡ says (fields_at kind) fields.old }
+    ensures record { record_to result fields.new.at ≡ fields_at kind fields.old.book.now fields.old.at }
+    ensures meaning { meaning_to result fields.new.at ≡ says (fields_at kind) fields.old }
 {
     match kind {
         1 => open_fields(fields),
@@ -149,7 +157,8 @@ fn fields_of<'a>(kind: u64, fields: &mut Cursor<'a>) -> Option<Record<'a>>
 // The record and the next place, if one can be read.
 #[tactic(auto, unfolding(crate::specs::Records::record_at))]
 pub fn record_at(s: &[u8], at: usize) -> Option<(Record<'_>, usize)>
-    ensures { record_of result ≡ read_map (meaning_of s.now) (record_at s.now at) }
+    ensures record { record_read result ≡ record_at s.now at }
+    ensures meaning { record_of result ≡ read_map (meaning_of s.now) (record_at s.now at) }
 {
     let mut fields = Cursor { book: s, at };
     let kind = fields.number()?;

@@ -8,6 +8,7 @@ ghost use Rattle.book.specs.Records.{Fits};
 ghost use Rattle.book.specs.Values.{meaning};
 ghost use Rattle.slots.specs.Sizes.{table_size};
 ghost use Rattle.table.specs.OnBytes.{told_of};
+ghost use Rattle.text.specs.Texts.{written, cleared};
 ghost use Rattle.runner.specs.Run.{line_size, text_size, request_of, Answers, Ran, left, printed_of};
 
 use book::line;
@@ -15,7 +16,7 @@ use book::record::{Record, record_at};
 use reasons::Reason;
 use slots::sizes;
 use std::io;
-use table::answers::Served;
+use table::answers::{Served, told};
 use text::Text;
 
 // Room for the longest request, for the longest line, and for the text: a piece ends with the line that passes ENOUGH bytes.
@@ -56,15 +57,15 @@ fn answer(table: &mut [u8], r: Record<'_>, out: &mut [u8; OUTPUT]) -> Result<Ser
             strength,
             interval,
             fresh,
-            entropy,
-            nonce,
-            personalization,
+            entropy.bytes,
+            nonce.bytes,
+            personalization.bytes,
         ),
         Record::Reseed {
             handle,
             entropy,
             additional,
-        } => calls::reseed(table, handle, entropy, additional),
+        } => calls::reseed(table, handle, entropy.bytes, additional.bytes),
         Record::Draw {
             handle,
             strength,
@@ -74,7 +75,7 @@ fn answer(table: &mut [u8], r: Record<'_>, out: &mut [u8; OUTPUT]) -> Result<Ser
             table,
             handle,
             strength,
-            additional,
+            additional.bytes,
             &mut out[..request as usize],
         ),
         Record::FreshDraw {
@@ -87,8 +88,8 @@ fn answer(table: &mut [u8], r: Record<'_>, out: &mut [u8; OUTPUT]) -> Result<Ser
             table,
             handle,
             strength,
-            entropy,
-            additional,
+            entropy.bytes,
+            additional.bytes,
             &mut out[..request as usize],
         ),
         Record::Close { handle } => calls::close(table, handle),
@@ -99,13 +100,10 @@ fn answer(table: &mut [u8], r: Record<'_>, out: &mut [u8; OUTPUT]) -> Result<Ser
 // Writes a record's line.
 fn run_record(table: &mut [u8], r: Record<'_>, out: &mut [u8; OUTPUT], text: &mut Text<'_>)
     requires fits { Fits (meaning r) }
-    requires room { length text.old.text + line_size ≤ text.old.size }
-    ensures { Ran table.old (meaning r.entry) text.old text.new table.new }
+    requires room { length (written text.old).text + line_size ≤ (written text.old).size }
+    ensures { Ran table.old (meaning r.entry) (written text.old) (written text.new) table.new }
 {
-    let (number, blocks, value) = match answer(table, r, out) {
-        Ok(served) => (0, served.blocks, served.value),
-        Err(reason) => (u64::from(reason), 0, 0),
-    };
+    let (number, blocks, value) = told(answer(table, r, out));
     line::line(text, r.kind(), number, blocks, value, &out[..request_of(r)]);
 }
 
@@ -117,9 +115,11 @@ fn run_some(
     out: &mut [u8; OUTPUT],
     text: &mut Text<'_>,
 ) -> usize
-    requires { text.old.size ≡ text_size }
-    ensures prints { left table.old book.now from ≡ text.new.text ++ left table.new book.now result }
-    ensures within { (text.new.size ≡ text_size) × (from < length book.now → from < result) }
+    requires { (written text.old).size ≡ text_size }
+    ensures prints { left table.old book.now from ≡ (written text.new).text ++ left table.new book.now result }
+    ensures within { (length (written text.new).text ≤ text_size) × ((written text.new).size ≡ text_size)
+        × (from < length book.now → from < result) }
+    ensures same_buffer { cleared (written text.new) ≡ cleared (written text.old) }
 {
     text.clear();
     let mut at = from;
@@ -138,9 +138,10 @@ fn run_some(
 // The first lines of a book, from a fresh table: those of its first records, or `book 0` where it is above 65,536 bytes.
 fn run_first(table: &mut [u8], book: &[u8], out: &mut [u8; OUTPUT], text: &mut Text<'_>) -> usize
     requires table_value { table.old ≡ replicate table_size 0 }
-    requires room { text.old.size ≡ text_size }
-    ensures prints { printed_of book.now ≡ text.new.text ++ left table.new book.now result }
-    ensures within { text.new.size ≡ text_size }
+    requires room { (written text.old).size ≡ text_size }
+    ensures prints { printed_of book.now ≡ (written text.new).text ++ left table.new book.now result }
+    ensures within { (length (written text.new).text ≤ text_size) × ((written text.new).size ≡ text_size) }
+    ensures same_buffer { cleared (written text.new) ≡ cleared (written text.old) }
 {
     if 65536 < book.len() {
         text.clear();

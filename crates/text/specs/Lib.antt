@@ -2,3 +2,4 @@
 pub mod Ascii
 pub mod Digits
 pub mod Writing
+pub mod Texts

@@ -5,4 +5,4 @@ use Rattle.runner.proofs.run.Goals as goal
 pub loop-table-preserved : goal.loop-table-preserved
 loop-table-preserved g c =
     let some = c.run_some-at.ensures in
-    record { size = some.within.0; handed = handed_next c.loop-table.invariant.handed some.prints }
+    record { size = some.within.1; handed = handed_next c.loop-table.invariant.handed some.prints }
