@@ -6,7 +6,8 @@ use Rattle.reasons.specs.declared.Reason.{Reason}
 use Rattle.reasons.specs.Numbers.{number_of}
 use Rattle.reasons.proofs.Numbers.{number-some}
 use Rattle.table.specs.Calls.{opens}
-use Rattle.table.specs.OnBytes.{Done, in_bytes}
+use Rattle.table.specs.OnBytes.{Done, told_of, in_bytes}
+use Rattle.table.specs.declared.answers.Served.{Served}
 use Rattle.std.proofs.Math.Seq.{drop-drop}
 use Rattle.std.proofs.Math.Dec.{eqb}
 use Rattle.std.proofs.lemmas.List.{take-replicate}
@@ -55,17 +56,21 @@ module _ (mechanism : ℕ) (fresh : Bool) (fields : List Field) (number : ℕ) (
       (λ c. cond c (gave (output_of d.told.value d.table (replicate (length returned) 0) (steps_of (drop 3 fields))) returned) false)
       is
 
-  pub opening-refused : {e : Reason} {table : List ℕ} → Opens fields d (Err e) table
-      → false ≡ passes mechanism fresh (case_of number fields returned)
-  opening-refused {e} opened =
-      sym (by_opening false (ap (λ n. eqb n 0) (sym opened.says) ∙ ne_eqb (number_of e) 0 (number-some e)))
+  module _ {o : Opened} {table : List ℕ} (opened : Opens fields d o table) where
+    told_is : {r : Result Served Reason} → o.outcome ≡ r → d.told ≡ told_of r
+    told_is outcome = ap (λ e. e.told) (sym opened.is) ∙ ap told_of outcome
 
-  -- the front of the output, as long as what was returned, was lent
-  pub opening-served : {o : Opened} {table : List ℕ} {given : Bool} (m : ℕ) → Opens fields d (Ok o) table → length returned ≤ m
-      → given ≡ gave (output_of o.handle table (take (length returned) (replicate m 0)) (steps_of (drop 3 fields))) returned
-      → given ≡ passes mechanism fresh (case_of number fields returned)
-  opening-served {o} {table} m opened few is =
-      is ∙
-      ap (λ out. gave (output_of o.handle table out (steps_of (drop 3 fields))) returned) (take-replicate (length returned) m 0 few) ∙
-      ap₂ (λ h t. gave (output_of h t (replicate (length returned) 0) (steps_of (drop 3 fields))) returned) opened.gives.0 opened.moves ∙
-      sym (by_opening true (ap (λ n. eqb n 0) (sym opened.says)))
+    pub opening-refused : {e : Reason} → o.outcome ≡ Err e → false ≡ passes mechanism fresh (case_of number fields returned)
+    opening-refused {e} refused =
+        sym (by_opening false (ap (λ t. eqb t.number 0) (told_is refused) ∙ ne_eqb (number_of e) 0 (number-some e)))
+
+    -- the front of the output, as long as what was returned, was lent
+    pub opening-served : {s : Served} {given : Bool} (m : ℕ) → o.outcome ≡ Ok s → length returned ≤ m
+        → given ≡ gave (output_of s.value table (take (length returned) (replicate m 0)) (steps_of (drop 3 fields))) returned
+        → given ≡ passes mechanism fresh (case_of number fields returned)
+    opening-served {s} m served few is =
+        is ∙
+        ap (λ out. gave (output_of s.value table out (steps_of (drop 3 fields))) returned) (take-replicate (length returned) m 0 few) ∙
+        ap₂ (λ h t. gave (output_of h t (replicate (length returned) 0) (steps_of (drop 3 fields))) returned)
+        (sym (ap (λ t. t.value) (told_is served))) (ap (λ e. e.table) opened.is) ∙
+        sym (by_opening true (ap (λ t. eqb t.number 0) (told_is served)))

@@ -1,18 +1,17 @@
 -- The first step of a case's fields is told by the names of the first two. Assumes nothing.
-use Rattle.std.proofs.Common.{ℕ, ◌≡◌, ◌≢◌, Bool, true, false, cond, List, [], ◌∷◌, refl, sym, ap, ap₂, subst, ◌∙◌, eq-eqb, ne_eqb}
-use Rattle.std.proofs.Common.{Bor, Result, Ok}
+use Rattle.std.proofs.Common.{ℕ, ◌≡◌, ◌≢◌, Bool, true, false, cond, List, [], ◌∷◌, refl, sym, ap, ap₂, ◌∙◌, eq-eqb, ne_eqb}
+use Rattle.std.proofs.Common.{Bor, Result, Ok, Err}
 use Rattle.std.proofs.Math.Dec.{eqb}
 use Rattle.rsp_line.specs.Names.{entropy_input_reseed, entropy_input_pr}
 use Rattle.rsp_case.specs.Cases.{Step, draws, fresh_draws, reseeds, Field, ◌is◌, steps_of}
 use Rattle.rsp_case.specs.Store.{stored}
 use Rattle.reasons.specs.declared.Reason.{Reason}
-use Rattle.reasons.specs.Numbers.{number_of}
-use Rattle.table.specs.OnBytes.{Told, leaving, told_refused}
-use Rattle.std.specs.Result.{IsErrAnd}
-use Rattle.std.proofs.lemmas.Result.{err_from_is_err_and}
+use Rattle.reasons.specs.Numbers.{refused_by}
+use Rattle.table.specs.OnBytes.{leaving, told_of}
+use Rattle.table.specs.declared.answers.Served.{Served}
 use Rattle.rsp_run.specs.Places.{First}
 use Rattle.rsp_run.specs.Run.{output_after, answered}
-use Rattle.rsp_run.specs.Walk.{Made, Steps}
+use Rattle.rsp_run.specs.Walk.{Steps}
 use Rattle.rsp_run.specs.declared.field.Field as read
 
 module _ (f : read.Field) (fields : List Field) (one : First f fields) where
@@ -47,34 +46,25 @@ module _ (f : read.Field) (fields : List Field) (one : First f fields) where
   last_draw over =
       ap steps_of (one.are ∙ ap (λ l. (f.name is f.value.now) ∷ l) over) ∙ ap (λ l. draws f.value.now ∷ steps_of l) (sym over)
 
--- the first step's call was answered as the step's is
-module _ {handle : ℕ} {table out table' o : List ℕ} (step : Step) where
-  made : {told : Told} → leaving told table' o ≡ answered handle table out step
-      → Made handle table out step told.number table' (output_after out step (leaving told table' o))
-  made same =
-      record {
-        says = ap (λ d. d.told.number) same;
-        moves = ap (λ d. d.table) same;
-        gives = ap (output_after out step) same;
-      }
+number_told : (r : Result Served Reason) → refused_by r ≡ (told_of r).number
+number_told (Ok s) = refl
+number_told (Err e) = refl
 
-  pub served-step : {fields : List Field} (left : List Field) {told : Told} (rest : Bor (List ℕ)) → told.number ≡ 0
-      → steps_of fields ≡ step ∷ steps_of left → rest.now ≡ stored left → leaving told table' o ≡ answered handle table out step
-      → Steps fields handle table out (Ok rest) table' (output_after out step (leaving told table' o))
-  served-step left {told} rest served first hold same =
-      let out' = output_after out step (leaving told table' o) in
-      record {
-        step = step;
-        left = left;
-        steps = first;
-        made = subst (λ n. Made handle table out step n table' out') served (made same);
-        hold = hold;
-      }
-
-  pub refused-step : {fields : List Field} (left : List Field) (reason : Reason) (r : Result (Bor (List ℕ)) Reason)
-      → IsErrAnd r (λ e. e ≡ reason)
-      → steps_of fields ≡ step ∷ steps_of left → leaving (told_refused (number_of reason)) table' o ≡ answered handle table out step
-      → Steps fields handle table out r table' (output_after out step (leaving (told_refused (number_of reason)) table' o))
-  refused-step left reason r refused first same =
-      let p = err_from_is_err_and r refused in
-      rw (p.1, p.2) (record { step = step; left = left; steps = first; made = made same; hold = tt })
+-- the first step's call was answered as the step's is, and the bytes behind it are left
+pub made-step : {fields : List Field} {handle : ℕ} {table out table' o : List ℕ} (step : Step) (left : List Field) (rest : Bor (List ℕ))
+    (r : Result Served Reason) → steps_of fields ≡ step ∷ steps_of left → rest.now ≡ stored left
+    → leaving (told_of r) table' o ≡ answered handle table out step
+    → Steps fields handle table out (record { outcome = r; rest = rest }) table' (output_after out step (leaving (told_of r) table' o))
+made-step {out} step left rest r first stand same =
+    record {
+      step = step;
+      left = left;
+      steps = first;
+      made =
+          record {
+            says = number_told r ∙ ap (λ d. d.told.number) same;
+            moves = ap (λ d. d.table) same;
+            gives = ap (output_after out step) same;
+          };
+      stand = stand;
+    }

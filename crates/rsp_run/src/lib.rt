@@ -11,6 +11,7 @@ ghost use Rattle.rsp_run.specs.Walk.{OpensCase, Gives};
 use reasons::Reason;
 use same::same;
 use slots::sizes;
+use table::answers::Served;
 
 pub mod field;
 pub mod steps;
@@ -21,10 +22,10 @@ const OUTPUT: usize = 2048;
 // The most draws between two reseeds that an opening takes.
 const INTERVAL: u64 = 1 << 48;
 
-// The handle that the opening gave, and the bytes of the fields behind it.
+// What the opening was answered, and the bytes of the fields behind it, served or refused.
 #[derive(Clone, Copy)]
 pub struct Opened<'a> {
-    pub handle: u64,
+    pub outcome: Result<Served, Reason>,
     pub rest: &'a [u8],
 }
 
@@ -39,18 +40,13 @@ fn value_first(fields: &[u8]) -> (&[u8], &[u8])
 }
 
 // The first three fields are EntropyInput, Nonce and PersonalizationString. Any number may be asked for as the mechanism.
-fn open_case<'a>(
-    table: &mut [u8],
-    mechanism: u64,
-    fresh: bool,
-    fields: &'a [u8],
-) -> Result<Opened<'a>, Reason>
+fn open_case<'a>(table: &mut [u8], mechanism: u64, fresh: bool, fields: &'a [u8]) -> Opened<'a>
     ensures { OpensCase fields.now mechanism fresh table.old result table.new }
 {
     let (entropy, behind) = value_first(fields);
     let (nonce, last) = value_first(behind);
     let (personalization, rest) = value_first(last);
-    let served = calls::open(
+    let outcome = calls::open(
         table,
         mechanism,
         0,
@@ -59,11 +55,8 @@ fn open_case<'a>(
         entropy,
         nonce,
         personalization,
-    )?;
-    Ok(Opened {
-        handle: served.value,
-        rest,
-    })
+    );
+    Opened { outcome, rest }
 }
 
 // Whether every step is served, and the last draw gives what was returned.
@@ -81,7 +74,8 @@ pub fn passes(mechanism: u64, fresh: bool, fields: &[u8], returned: &[u8]) -> bo
         → result ≡ passes mechanism fresh (case_of number l returned.now) }
 {
     let mut table = [0u8; sizes::TABLE];
-    let Ok(opened) = open_case(&mut table, mechanism, fresh, fields) else {
+    let opened = open_case(&mut table, mechanism, fresh, fields);
+    let Ok(served) = opened.outcome else {
         return false;
     };
     let mut out = [0u8; OUTPUT];
@@ -89,7 +83,7 @@ pub fn passes(mechanism: u64, fresh: bool, fields: &[u8], returned: &[u8]) -> bo
     gives(
         &mut table,
         opened.rest,
-        opened.handle,
+        served.value,
         &mut out[..n],
         returned,
     )

@@ -7,16 +7,16 @@ use Rattle.rsp_run.proofs.steps.run_steps.Goals as goal
 pub loop-first-init : goal.loop-first-init
 loop-first-init c = λ fields are. record { fields = fields; hold = are; is = refl }
 
-pub returns-in_err-left : goal.returns-in_err-left
-returns-in_err-left c = λ fields are.
+pub returns-in_err-step : goal.returns-in_err-step
+returns-in_err-step c = λ fields are.
     let left = c.loop-first.invariant fields are in
     let p = err_from_is_err_and c.from_residual.result c.from_residual.ensures.1 in
-    rw p.1 (refused-one left (c.in_err-left.ensures.is left.fields (c.in-Some.ensures.is left.fields left.hold)))
+    rw p.1 (refused-one left (c.run_step-step.ensures.is left.fields (c.in-Some.ensures.is left.fields left.hold)) c.in_err-step.was)
 
 pub loop-first-preserved : goal.loop-first-preserved
 loop-first-preserved c = λ fields are.
     let left = c.loop-first.invariant fields are in
-    served-one left (c.in_ok-left.ensures.is left.fields (c.in-Some.ensures.is left.fields left.hold))
+    served-one left (c.run_step-step.ensures.is left.fields (c.in-Some.ensures.is left.fields left.hold)) c.in_ok-step.was
 
 pub returns : goal.returns
 returns c = λ fields are.
