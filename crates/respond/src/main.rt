@@ -6,6 +6,8 @@
 mod reading;
 mod telling;
 
+ghost use Rattle.std.specs.Prelude.{◌≤◌, length, IfSome};
+
 use crate::telling::{Fault, Stop};
 use std::env::{Env, FillError};
 use std::fs::File;
@@ -22,7 +24,9 @@ pub struct Words {
 }
 
 // A word, in the buffer. One that does not fit is cut to the whole buffer, which is more than a file's name may have.
-fn word_at<'a>(rt: &HostRuntime, i: usize, buffer: &'a mut [u8]) -> Option<&'a [u8]> {
+fn word_at<'a>(rt: &HostRuntime, i: usize, buffer: &'a mut [u8]) -> Option<&'a [u8]>
+    ensures { IfSome result (λ word. length word.now ≤ length buffer.old) }
+{
     match rt.arg(i, buffer) {
         Ok(n) => Some(&buffer[..n]),
         Err(FillError::TooLong) => Some(buffer),

@@ -1,7 +1,9 @@
 // Reads a file through a window and writes its report piece by piece. What is written is promised by report_some and report_end; that it
 // is written no contract can say.
 ghost use Rattle.std.specs.Prelude.{◌≡◌, [], ◌^◌, ◌≤◌, length, IsOk, OnOk};
+ghost use Rattle.text.specs.Texts.{written, cleared};
 ghost use Rattle.responses.specs.Sizes.{text_size};
+ghost use Rattle.responses.specs.Pieces.{all_read};
 ghost use Rattle.respond.specs.Reading.{Going, GoesOn, window_size};
 
 use crate::telling::{Fault, Stop};
@@ -39,10 +41,11 @@ fn report_window<'a>(
     name: &'a [u8],
 ) -> Result<(), Stop<'a>>
     requires going { Going reader.old × (length window.now ≤ window_size) }
-    requires size { text.old.size ≡ text_size }
-    ensures size { text.new.size ≡ text_size }
+    requires size { (written text.old).size ≡ text_size }
+    ensures same_buffer { cleared (written text.new) ≡ cleared (written text.old) }
+    ensures same { reader.new.mechanism ≡ reader.old.mechanism }
     ensures going { OnOk result (Going reader.new) }
-    ensures on { OnOk result (GoesOn reader.old window.now [] reader.new) }
+    ensures on { OnOk result (GoesOn all_read reader.old window.now [] all_read reader.new) }
 {
     let mut rest = window;
     while !rest.is_empty() {

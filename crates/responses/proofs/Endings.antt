@@ -3,7 +3,7 @@ use Rattle.std.proofs.Common.{ℕ, ◌+◌, ◌≤◌, ◌<◌, ◌≡◌, List,
 use Rattle.std.proofs.Common.{append-nil, arith, Result, Ok, Err}
 use Rattle.std.proofs.Math.Seq.{length-take-le}
 use native.Mathlib.Decide.{dec_lt}
-use Rattle.text.specs.Writing.{Written, ◌then◌, none_of}
+use Rattle.text.specs.Writing.{Written, ◌then◌}
 use Rattle.file_lines.specs.Lines.{unended, lines_from}
 use Rattle.file_lines.specs.Held.{line_size, Holds}
 use Rattle.rsp_line.specs.Lines.{says}
@@ -36,7 +36,7 @@ one_line (c ∷ line) h = refl
 abbrev behind : Reader → State → Now
 behind was s = after (takes s (says (take was.progress.held was.line)))
 
-module _ (was : Reader) (old : Written) {room : ℕ} (clear : old ≡ none_of room) where
+module _ (was : Reader) (old : Written) (clear : old.text ≡ []) where
   -- behind a line's end
   pub ends-none : {text : Written} → was.progress.held ≡ 0
       → text ≡ old then lacking was.progress.lines was.progress.point → Ends was text.text
@@ -44,7 +44,7 @@ module _ (was : Reader) (old : Written) {room : ℕ} (clear : old ≡ none_of ro
   ends-none none wrote s line here begun =
       ap (λ l. report was.mechanism was.progress.lines (unended l) (reading s)) (sym (none-begun was.line line none begun)) ∙
       ap (lacking was.progress.lines) (sym here.point) ∙
-      sym (ap (λ t. t.text) wrote ∙ ap (λ o. o.text ++ lacking was.progress.lines was.progress.point) clear)
+      sym (ap (λ t. t.text) wrote ∙ ap (λ l. l ++ lacking was.progress.lines was.progress.point) clear)
 
   module _ (size : length was.line ≡ line_size) (few : was.progress.held ≤ line_size) (some : was.progress.held ≡ 0 → ⊥)
       (T E : Type 0) (text : Written) (r : Reader) where
@@ -66,7 +66,7 @@ module _ (was : Reader) (old : Written) {room : ℕ} (clear : old ≡ none_of ro
         (λ x. line_for was.mechanism (was.progress.lines + 1) (takes s x) ++ end_on (was.progress.lines + 1) (after (takes s x)))
         (sym (says-whole was.line was.progress.held line size few begun)) ∙
         ap (λ x. x ++ end_on (was.progress.lines + 1) (behind was s))
-        (sym (ap (λ t. t.text) (tells s here).wrote ∙ ap (λ (o : Written). o.text ++ said) clear))
+        (sym (ap (λ t. t.text) (tells s here).wrote ∙ ap (λ l. l ++ said) clear))
 
     -- it can't be read
     nothing-more : (e : E) (now : Now) → NowIn {T = T} (Err e) r now → end_on (was.progress.lines + 1) now ≡ []

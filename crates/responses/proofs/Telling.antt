@@ -64,13 +64,13 @@ module _ (was : Reader) (line : List ℕ) (old : Written) (inside : was.progress
     pub tells_goes : Goes p ≡ next was.progress.point was.progress.used (says line)
         → Kept (Goes p) f was.store was.progress.used r.store used' stop → Tells {T = T} {E = E} was line old (Ok x) r old
     tells_goes leads kept s here =
-        tells_as leads s here old (ap (λ l. record { text = l; size = old.size }) (sym (append-nil old.text)))
+        tells_as leads s here old (ap (λ l. record old { text = l }) (sym (append-nil old.text)))
         (record { point = point; fields = same-fields s (used ∙ kept.0) kept.1 here })
 
     pub tells_keeps : Keeps p ≡ next was.progress.point was.progress.used (says line)
         → Kept (Keeps p) f was.store was.progress.used r.store used' stop → Tells {T = T} {E = E} was line old (Ok x) r old
     tells_keeps leads kept s here =
-        tells_as leads s here old (ap (λ l. record { text = l; size = old.size }) (sym (append-nil old.text)))
+        tells_as leads s here old (ap (λ l. record old { text = l }) (sym (append-nil old.text)))
         (record {
           point = point;
           fields =

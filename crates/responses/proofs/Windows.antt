@@ -14,8 +14,8 @@ use Rattle.file_lines.specs.Held.{line_size, Holds, Went}
 use Rattle.rsp_line.specs.Lines.{says, unread}
 use Rattle.rsp_case.specs.Reading.{State, takes}
 use Rattle.responses.specs.Sizes.{store_size}
-use Rattle.responses.specs.Report.{Now, reading, stopped, after, line_for, report}
-use Rattle.responses.specs.Pieces.{InStore, NowIn, Told, left, Reports, IsLeft}
+use Rattle.responses.specs.Report.{reading, stopped, after, line_for, report}
+use Rattle.responses.specs.Pieces.{InStore, Told, all_read, Behind, Reports, IsLeft}
 use Rattle.responses.specs.declared.Reader.{Reader}
 use Rattle.responses.specs.declared.Piece.{Piece}
 use Rattle.responses.specs.declared.Unread.{Unread}
@@ -81,11 +81,19 @@ none-held buffer none =
     subst (λ k. Holds buffer k []) (sym none) (record { short = λ h. refl; long = λ h. absurd (omega (arith, h)) })
 
 module _ (was : Reader) (window : List ℕ) where
+  -- nothing more is reported once a line can't be read
+  from_state : (old : List ℕ) (p : Piece) (r : Reader) (text : List ℕ)
+      → ((s : State) (line : List ℕ) → InStore was.progress was.store s → Holds was.line was.progress.held line
+      → Behind was (reading s) line window old p r text)
+      → Reports all_read was window old p r text
+  from_state old p r text f (reading s) line here begun = f s line here begun
+  from_state old p r text f stopped line here begun = absurd here
+
   -- the window ends: the reading is where it was
   pub behind_window : (old buffer : List ℕ) (held next : ℕ) (inside : (was.progress.used ≤ store_size) × (held ≤ line_size))
       (rest : Bor (List ℕ)) → rest.now ≡ drop next window
       → ((l : List ℕ) → Holds was.line was.progress.held l → Went window 0 l next false buffer held)
-      → Reports was window old (record { rest = rest; read = Ok tt })
+      → Reports all_read was window old (record { rest = rest; read = Ok tt })
       (record {
         mechanism = was.mechanism;
         progress = record { point = was.progress.point; used = was.progress.used; lines = was.progress.lines; held = held };
@@ -94,7 +102,7 @@ module _ (was : Reader) (window : List ℕ) where
         inside = inside;
       })
       old
-  behind_window old buffer held next inside rest rest-is went s line here begun =
+  behind_window old buffer held next inside rest rest-is went = from_state _ _ _ _ (λ s line here begun.
       let w = went line begun in
       record {
         now = reading s;
@@ -105,7 +113,7 @@ module _ (was : Reader) (window : List ℕ) where
             λ more.
             ap (λ l. old ++ report was.mechanism was.progress.lines l (reading s))
             (w.onward more ∙ ap (λ x. lines_from w.now (x ++ more)) (sym rest-is));
-      }
+      })
 
   -- the line ends
   pub behind-line : (old text : Written) (buffer : List ℕ) (held next : ℕ) (r : Reader) (read : Result (Unit {0}) Unread) (l' : List ℕ)
@@ -114,9 +122,9 @@ module _ (was : Reader) (window : List ℕ) where
       → ((l : List ℕ) → Holds buffer held l → says l' ≡ says (ended l))
       → r.mechanism ≡ was.mechanism → r.progress.lines ≡ was.progress.lines + 1 → r.progress.held ≡ 0
       → ((s : State) → InStore was.progress was.store s → Told was.mechanism (was.progress.lines + 1) s l' old read r text)
-      → Reports was window old.text (record { rest = rest; read = read }) r text.text
+      → Reports all_read was window old.text (record { rest = rest; read = read }) r text.text
   unfolding report
-  behind-line old text buffer held next r read l' rest rest-is went same mechanism lines none tells s line here begun =
+  behind-line old text buffer held next r read l' rest rest-is went same mechanism lines none tells = from_state _ _ _ _ (λ s line here begun.
       let w = went line begun in
       let told = tells s here in
       let n = was.progress.lines + 1 in
@@ -135,32 +143,25 @@ module _ (was : Reader) (window : List ℕ) where
             sym (append_assoc old.text (line_for was.mechanism n t) (report was.mechanism n left (after t))) ∙
             ap₂ (λ x m. x ++ report m n left (after t)) (sym (ap (λ x. x.text) told.wrote)) (sym mechanism) ∙
             ap₂ (λ k x. text.text ++ report r.mechanism k (lines_from [] (x ++ more)) (after t)) (sym lines) (sym rest-is);
-      }
+      })
 
--- pieces compose, as long as each line could be read
-pub reports_none : (was : Reader) (window : Bor (List ℕ)) → Reports was window.now [] (record { rest = window; read = Ok tt }) was []
-reports_none was window s line here begun =
-    record { now = reading s; begun = line; state = here; held = begun; is = λ rest. refl }
+-- pieces compose
+pub reports_none : (was : Reader) (window : Bor (List ℕ)) → Reports all_read was window.now [] (record { rest = window; read = Ok tt }) was []
+reports_none was window before line here begun =
+    record { now = before; begun = line; state = here; held = begun; is = λ rest. refl }
 
-reading_on : (read : Result (Unit {0}) Unread) (r : Reader) (now : Now) → is_ok read ≡ true → NowIn read r now
-    → (s : State) × (now ≡ reading s) × InStore r.progress r.store s
-reading_on (Ok x) r (reading s) could here = (s, refl, here)
-reading_on (Ok x) r stopped could here = absurd here
-reading_on (Err e) r now could here = absurd (false≢true could)
+pub reports_then : (read : Result (Unit {0}) Unread) {was mid r : Reader} {window old text text' : List ℕ} {p q : Piece}
+    → Reports read was window old p mid text → Reports p.read mid p.rest.now text q r text' → Reports read was window old q r text'
+reports_then read first second before line here begun =
+    let a = first before line here begun in
+    let b = second a.now a.begun a.state a.held in
+    record { now = b.now; begun = b.begun; state = b.state; held = b.held; is = λ more. a.is more ∙ b.is more }
 
-pub reports_then : {was mid r : Reader} {window old text text' : List ℕ} {p q : Piece} → is_ok p.read ≡ true
-    → Reports was window old p mid text → Reports mid p.rest.now text q r text' → Reports was window old q r text'
-reports_then {was} {mid} {r} {window} {old} {text} {text'} {p} {q} could first second s line here begun =
-    let a = first s line here begun in
-    let on = reading_on p.read mid a.now could a.state in
-    let b = second on.0 a.begun on.2 a.held in
-    record {
-      now = b.now;
-      begun = b.begun;
-      state = b.state;
-      held = b.held;
-      is = λ more. a.is more ∙ ap (λ n. text ++ left mid n a.begun p.rest.now more) on.1 ∙ b.is more;
-    }
+-- where each line could be read
+pub reports_on : (read : Result (Unit {0}) Unread) {mid r : Reader} {window old text : List ℕ} {p : Piece} → is_ok read ≡ true
+    → Reports all_read mid window old p r text → Reports read mid window old p r text
+reports_on (Ok x) could reports = reports
+reports_on (Err e) could reports = absurd (false≢true could)
 
 -- what is left of what is left
 pub left_then : {window rest last : List ℕ} → IsLeft window rest → IsLeft rest last → IsLeft window last

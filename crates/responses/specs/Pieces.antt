@@ -11,6 +11,7 @@ use Rattle.responses.specs.Report.{Now, reading, stopped, after, line_for, repor
 use Rattle.responses.specs.declared.Progress.{Progress}
 use Rattle.responses.specs.declared.Piece.{Piece}
 use Rattle.responses.specs.declared.Reader.{Reader}
+use Rattle.responses.specs.declared.Unread.{Unread}
 
 -- where a file begins
 abbrev pub started : Progress
@@ -20,6 +21,10 @@ started = record { point = begun; used = 0; lines = 0; held = 0 }
 pub record InStore (p : Progress) (store : List ℕ) (s : State) : Type 0 where
   pub point : p.point ≡ s.point
   pub fields : take p.used store ≡ stored s.fields
+
+-- each line so far could be read
+abbrev pub all_read : Result (Unit {0}) Unread
+all_read = Ok tt
 
 -- where each line could be read the reader is in a state, else it is stopped
 abbrev pub NowIn : {T E : Type 0} → Result T E → Reader → Now → Type 0
@@ -50,11 +55,11 @@ pub record Behind (was : Reader) (before : Now) (line window old : List ℕ) (p 
   pub held : Holds r.line r.progress.held begun
   pub is : (rest : List ℕ) → old ++ left was before line window rest ≡ text ++ left r now begun p.rest.now rest
 
--- whatever was read before
-abbrev pub Reports : Reader → (window old : List ℕ) → Piece → Reader → (text : List ℕ) → Type 0
-Reports was window old p r text =
-    (s : State) (line : List ℕ) → InStore was.progress was.store s → Holds was.line was.progress.held line
-    → Behind was (reading s) line window old p r text
+-- whatever was read before, and whether it could be
+abbrev pub Reports : Result (Unit {0}) Unread → Reader → (window old : List ℕ) → Piece → Reader → (text : List ℕ) → Type 0
+Reports read was window old p r text =
+    (before : Now) (line : List ℕ) → NowIn read was before → Holds was.line was.progress.held line
+    → Behind was before line window old p r text
 
 -- the end of the file
 abbrev pub Ends : Reader → (text : List ℕ) → Type 0

@@ -18,7 +18,7 @@ const ENOUGH: usize = 4096;
 
 pub const TEXT: usize = ENOUGH + 40;
 
-const STORE: usize = 65536;
+pub const STORE: usize = 65536;
 
 // How far the reading of a file has come: the point in the case at hand, how many bytes of the store its fields take, how many lines
 // were read, and how many characters of the next one are held.
@@ -59,18 +59,19 @@ pub struct Piece<'w> {
 // an opening refuses those that name none.
 #[derive(Drop)]
 pub struct Reader {
-    mechanism: u64,
-    progress: Progress,
-    line: [u8; LINE],
-    store: [u8; STORE],
-    ghost inside: { (progress.used ≤ store_size) × (progress.held ≤ line_size) },
+    pub mechanism: u64,
+    pub progress: Progress,
+    pub line: [u8; LINE],
+    pub store: [u8; STORE],
+    pub ghost inside: { (progress.used ≤ store_size) × (progress.held ≤ line_size) },
 }
 
 impl Reader {
     ghost use Rattle.std.specs.Prelude.{◌≡◌, ◌+◌, ◌^◌, ◌≤◌, ◌<◌, [], length, take};
     ghost use Rattle.text.specs.Writing.{◌then◌};
+    ghost use Rattle.text.specs.Texts.{written, cleared};
     ghost use Rattle.responses.specs.Sizes.{room_size, text_size};
-    ghost use Rattle.responses.specs.Pieces.{started, Tells, Reports, Ends, IsLeft};
+    ghost use Rattle.responses.specs.Pieces.{started, all_read, Tells, Reports, Ends, IsLeft};
     ghost use Rattle.responses.specs.Report.{lacking};
 
     // A file begins.
@@ -101,11 +102,12 @@ impl Reader {
     // Takes the line of the first n characters that are held, and writes what it reports.
     fn report_line(&mut self, n: usize, text: &mut Text<'_>) -> Result<(), Unread>
         requires line { (n ≤ line_size) × (self.old.progress.lines + 1 < 2 ^ 64) }
-        requires room { length text.old.text + room_size ≤ text.old.size }
+        requires room { length (written text.old).text + room_size ≤ (written text.old).size }
         ensures same { (self.new.mechanism ≡ self.old.mechanism) × (self.new.line ≡ self.old.line) }
         ensures within { (self.new.progress.lines ≡ self.old.progress.lines + 1) × (self.new.progress.held ≡ 0) }
-        ensures few { (length text.new.text ≤ length text.old.text + room_size) × (text.new.size ≡ text.old.size) }
-        ensures tells { Tells self.old (take n self.old.line) text.old result self.new text.new }
+        ensures few { length (written text.new).text ≤ length (written text.old).text + room_size }
+        ensures same_buffer { cleared (written text.new) ≡ cleared (written text.old) }
+        ensures tells { Tells self.old (take n self.old.line) (written text.old) result self.new (written text.new) }
     {
         let was = self.progress;
         let took = store::take_line(was.point, was.used, &self.line[..n], &mut self.store);
@@ -144,13 +146,14 @@ impl Reader {
     // Holds a line's characters as far as the window goes, and takes the line where its end is seen.
     fn report_next<'w>(&mut self, window: &'w [u8], text: &mut Text<'_>) -> Piece<'w>
         requires lines { self.old.progress.lines + 1 < 2 ^ 64 }
-        requires room { length text.old.text + room_size ≤ text.old.size }
+        requires room { length (written text.old).text + room_size ≤ (written text.old).size }
         ensures same { self.new.mechanism ≡ self.old.mechanism }
         ensures lines { self.new.progress.lines ≤ self.old.progress.lines + 1 }
         ensures rest { IsLeft window.now result.rest.now }
         ensures further { 0 < length window.now → length result.rest.now < length window.now }
-        ensures few { (length text.new.text ≤ length text.old.text + room_size) × (text.new.size ≡ text.old.size) }
-        ensures reports { Reports self.old window.now text.old.text result self.new text.new.text }
+        ensures few { length (written text.new).text ≤ length (written text.old).text + room_size }
+        ensures same_buffer { cleared (written text.new) ≡ cleared (written text.old) }
+        ensures reports { Reports all_read self.old window.now (written text.old).text result self.new (written text.new).text }
     {
         let hold = file_lines::hold(window, 0, &mut self.line, self.progress.held);
         let held = hold.held;
@@ -168,12 +171,13 @@ impl Reader {
     pub fn report_some<'w>(&mut self, window: &'w [u8], text: &mut Text<'_>) -> Piece<'w>
         requires lines { self.old.progress.lines ≤ 2 ^ 63 }
         requires window { length window.now ≤ 65536 }
-        requires size { text.old.size ≡ text_size }
+        requires size { (written text.old).size ≡ text_size }
         ensures same { self.new.mechanism ≡ self.old.mechanism }
         ensures rest { IsLeft window.now result.rest.now }
         ensures further { 0 < length window.now → length result.rest.now < length window.now }
-        ensures within { (length text.new.text ≤ text_size) × (text.new.size ≡ text_size) }
-        ensures reports { Reports self.old window.now [] result self.new text.new.text }
+        ensures within { (length (written text.new).text ≤ text_size) × ((written text.new).size ≡ text_size) }
+        ensures same_buffer { cleared (written text.new) ≡ cleared (written text.old) }
+        ensures reports { Reports all_read self.old window.now [] result self.new (written text.new).text }
     {
         text.clear();
         let mut piece = Piece {
@@ -189,9 +193,10 @@ impl Reader {
     // The file ends behind its lines: inside a case it lacks one.
     fn report_close(&self, text: &mut Text<'_>) -> Result<(), Unread>
         requires lines { self.now.progress.lines + 1 < 2 ^ 64 }
-        requires room { length text.old.text + room_size ≤ text.old.size }
-        ensures wrote { text.new ≡ text.old then lacking self.now.progress.lines self.now.progress.point }
-        ensures few { (length text.new.text ≤ length text.old.text + room_size) × (text.new.size ≡ text.old.size) }
+        requires room { length (written text.old).text + room_size ≤ (written text.old).size }
+        ensures wrote { written text.new ≡ written text.old then lacking self.now.progress.lines self.now.progress.point }
+        ensures few { length (written text.new).text ≤ length (written text.old).text + room_size }
+        ensures same_buffer { cleared (written text.new) ≡ cleared (written text.old) }
     {
         // 0 between cases
         if self.progress.point.last == 0 {
@@ -204,9 +209,13 @@ impl Reader {
     // The file ends: its last line may lack its end.
     pub fn report_end(&mut self, text: &mut Text<'_>) -> Result<(), Unread>
         requires lines { self.old.progress.lines ≤ 2 ^ 63 }
-        requires size { text.old.size ≡ text_size }
-        ensures within { (length text.new.text ≤ text_size) × (text.new.size ≡ text_size) }
-        ensures ends { Ends self.old text.new.text }
+        requires size { (written text.old).size ≡ text_size }
+        ensures within { (length (written text.new).text ≤ text_size) × ((written text.new).size ≡ text_size) }
+        ensures same_buffer { cleared (written text.new) ≡ cleared (written text.old) }
+        ensures same { (self.new.mechanism ≡ self.old.mechanism) × (self.new.line ≡ self.old.line) }
+        ensures lines { (self.old.progress.lines ≤ self.new.progress.lines)
+            × (self.new.progress.lines ≤ self.old.progress.lines + 1) }
+        ensures ends { Ends self.old (written text.new).text }
     {
         text.clear();
         let held = self.progress.held;

@@ -1,5 +1,5 @@
 -- What is known before the first window, and behind each.
-use Rattle.std.proofs.Common.{rules, refl, ap, arith}
+use Rattle.std.proofs.Common.{rules, refl, ap, ◌∙◌, arith}
 use Rattle.respond.proofs.Handed.{handed_first, handed_next}
 use Rattle.respond.proofs.reading.report_file.Goals as goal
 
@@ -18,7 +18,7 @@ loop-preserved g c =
     let ran = c.in_ok-report_window.ensures in
     record {
       window = search rules;
-      size = c.report_window.ensures.size;
+      size = ap (λ w. w.size) c.report_window.ensures.same_buffer ∙ c.loop.invariant.size;
       going = ran.going;
       handed = handed_next c.loop.invariant.handed ran.on;
     }
