@@ -124,7 +124,8 @@ module _ (was : Reader) (window : List ℕ) where
       → ((s : State) → InStore was.progress was.store s → Told was.mechanism (was.progress.lines + 1) s l' old read r text)
       → Reports all_read was window old.text (record { rest = rest; read = read }) r text.text
   unfolding report
-  behind-line old text buffer held next r read l' rest rest-is went same mechanism lines none tells = from_state _ _ _ _ (λ s line here begun.
+  behind-line old text buffer held next r read l' rest rest-is went same mechanism lines none tells =
+      from_state _ _ _ _ (λ s line here begun.
       let w = went line begun in
       let told = tells s here in
       let n = was.progress.lines + 1 in
@@ -146,7 +147,8 @@ module _ (was : Reader) (window : List ℕ) where
       })
 
 -- pieces compose
-pub reports_none : (was : Reader) (window : Bor (List ℕ)) → Reports all_read was window.now [] (record { rest = window; read = Ok tt }) was []
+pub reports_none : (was : Reader) (window : Bor (List ℕ))
+    → Reports all_read was window.now [] (record { rest = window; read = Ok tt }) was []
 reports_none was window before line here begun =
     record { now = before; begun = line; state = here; held = begun; is = λ rest. refl }
 

@@ -1,5 +1,5 @@
 -- One line after the other; each gets further in the window.
-use Rattle.std.proofs.Common.{refl, sym, ◌∙◌, subst, length, length-drop, ap, ◌<◌, [], Ok, arith, rules}
+use Rattle.std.proofs.Common.{refl, sym, ◌∙◌, subst, length, length-drop, ap, ◌<◌, [], arith, rules}
 use Rattle.text.specs.Texts.{cleared}
 use Rattle.responses.specs.Pieces.{all_read, Reports}
 use Rattle.responses.proofs.Windows.{reports_none, reports_then, reports_on, left_then}
@@ -17,7 +17,8 @@ loop-piece-init c =
       first = λ same. (refl, ap (λ t. length t.text) none);
       reports =
           subst
-          (λ t. Reports all_read c.args.self.now c.args.window.now [] (record { rest = c.args.window; read = Ok tt }) c.args.self.now t.text)
+          (λ t. Reports all_read c.args.self.now c.args.window.now [] (record { rest = c.args.window; read = all_read })
+          c.args.self.now t.text)
           (sym none)
           (reports_none c.args.self.now c.args.window);
     }
